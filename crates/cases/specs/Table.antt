@@ -1,0 +1,123 @@
+-- Cases A to K of document 01, "Campsite examples", as rows of one table. A row is data: where it starts, what is called, what is expected.
+use Prim.Native.Nat.{ℕ}
+use mathlib.Core.List.{List, [], _∷_}
+use lib.ListN.{replicate}
+use Rattle.model.specs.FileMap.{Call, create, unlink, rename, write, setSize, clean, recover}
+
+-- What a row does.
+pub data Step : Type 0 where
+  -- format blank memory
+  formats : (pages : ℕ) → (inodes : ℕ) → Step
+  -- make a call on the volume that row `start` left; all its stores land
+  calls : (start : ℕ) → (call : Call) → Step
+  -- make a call on the volume that row `start` left; it is cut in group g, of which the words `kept` land
+  cuts : (start : ℕ) → (call : Call) → (g : ℕ) → (kept : List ℕ) → Step
+
+-- The answer that is expected: done, done with a count of words, or refused with a number.
+pub data Expected : Type 0 where
+  isDone : Expected
+  fills : (words : ℕ) → Expected
+  refuses : (number : ℕ) → Expected
+
+-- What is expected of the volume that a row leaves.
+pub data Fact : Type 0 where
+  wordIs : (index : ℕ) → (value : ℕ) → Fact
+  freeIs : (pages : ℕ) → Fact
+  namesAre : (count : ℕ) → Fact
+  sizeIs : (inode : ℕ) → (size : ℕ) → Fact
+  -- the data pages of an inode's file pages, from file page 0 on
+  dataIs : (inode : ℕ) → (pages : List ℕ) → Fact
+  -- the pages of an inode's log
+  logIs : (inode : ℕ) → (pages : List ℕ) → Fact
+  -- what volume-list prints
+  prints : (text : List ℕ) → Fact
+
+pub record Row : Type 0 where
+  pub step : Step
+  pub answer : Expected
+  pub facts : List Fact
+
+-- Rows by their place in the table.
+abbrev A : ℕ
+A = 0
+
+abbrev B : ℕ
+B = 1
+
+abbrev C : ℕ
+C = 2
+
+abbrev D : ℕ
+D = 3
+
+abbrev E : ℕ
+E = 4
+
+abbrev J : ℕ
+J = 10
+
+-- "A1"
+abbrev A1 : List ℕ
+A1 = 65 ∷ 49 ∷ []
+
+-- n bytes to write; their values are free
+abbrev bytes : ℕ → List ℕ
+bytes n = replicate n 7
+
+-- "files 1 free 10" and "1 514 A1", each ended by a newline
+abbrev listingC : List ℕ
+listingC =
+    102 ∷ 105 ∷ 108 ∷ 101 ∷ 115 ∷ 32 ∷ 49 ∷ 32 ∷ 102 ∷ 114 ∷ 101 ∷ 101 ∷ 32 ∷ 49 ∷ 48 ∷ 10
+    ∷ 49 ∷ 32 ∷ 53 ∷ 49 ∷ 52 ∷ 32 ∷ 65 ∷ 49 ∷ 10 ∷ []
+
+unfoldable pub table : List Row
+table =
+    -- A
+    record { step = formats 16 8; answer = isDone; facts = freeIs 14 ∷ namesAre 0 ∷ [] }
+    -- B
+    ∷ record {
+      step = calls A (create A1);
+      answer = fills 46;
+      facts =
+          logIs 0 (2 ∷ [])
+          ∷ wordIs 128 3 ∷ wordIs 129 1 ∷ wordIs 130 2 ∷ wordIs 131 12609
+          ∷ wordIs 65 2 ∷ wordIs 66 1088 ∷ wordIs 72 1 ∷ wordIs 8 2 ∷ wordIs 9 2 ∷ namesAre 1 ∷ [];
+    }
+    -- C
+    ∷ record {
+      step = calls B (write 1 510 (bytes 4));
+      answer = fills 280;
+      facts =
+          dataIs 1 (3 ∷ 4 ∷ []) ∷ logIs 1 (5 ∷ []) ∷ wordIs 74 2624 ∷ sizeIs 1 514 ∷ freeIs 10 ∷ prints listingC ∷ [];
+    }
+    -- D
+    ∷ record {
+      step = calls C (setSize 1 100);
+      answer = fills 166;
+      facts = dataIs 1 (6 ∷ 0 ∷ []) ∷ wordIs 74 2752 ∷ sizeIs 1 100 ∷ freeIs 11 ∷ [];
+    }
+    -- E
+    ∷ record {
+      step = calls D (clean 1);
+      answer = fills 40;
+      facts = wordIs 73 3 ∷ wordIs 74 1600 ∷ freeIs 11 ∷ sizeIs 1 100 ∷ dataIs 1 (6 ∷ 0 ∷ []) ∷ [];
+    }
+    -- F
+    ∷ record {
+      step = calls E (unlink A1);
+      answer = isDone;
+      facts = freeIs 13 ∷ wordIs 8 6 ∷ wordIs 9 6 ∷ namesAre 0 ∷ [];
+    }
+    -- G
+    ∷ record { step = calls B (rename A1 A1); answer = fills 0; facts = [] }
+    -- H
+    ∷ record { step = calls B (create A1); answer = refuses 7; facts = [] }
+    -- I
+    ∷ record { step = calls B (write 1 61440 (bytes 4096)); answer = isDone; facts = [] }
+    ∷ record { step = calls B (write 1 61441 (bytes 4096)); answer = refuses 9; facts = [] }
+    -- J
+    ∷ record { step = cuts A (create A1) 2 (66 ∷ []); answer = isDone; facts = wordIs 66 1088 ∷ wordIs 72 0 ∷ [] }
+    ∷ record { step = calls J recover; answer = fills 10; facts = namesAre 0 ∷ freeIs 14 ∷ [] }
+    -- K
+    ∷ record { step = calls B (write 1 0 (bytes 4097)); answer = refuses 8; facts = [] }
+    ∷ []

@@ -1,0 +1,84 @@
+-- Document 01, "An accepted volume". All but the journal's own words is read from the view.
+use Prim.Native.Nat.{ℕ, _+_, _-_, _*_, _/_, _%_}
+use mathlib.Core.Bool.{Bool, cond, _&&_, _||_, not}
+use mathlib.Core.List.{List}
+use lib.ListN.{length}
+use lib.Dec.{leb, ltb, eqb}
+use Rattle.model.specs.Lists.{bit, allBelow, sumBelow, all, has, count, isSome}
+use Rattle.model.specs.Words.{Mem}
+use Rattle.model.specs.Layout.{validWord, inPages, root, isDirectory, filePages, mostNames}
+use Rattle.model.specs.Journal.{journalOk, view}
+use Rattle.model.specs.Entry.{fileEntryOk, nameEntryOk}
+use Rattle.model.specs.Log.{logPages, pages, entries}
+use Rattle.model.specs.State.{File, fileOf, fileByte, Names, namesOf, inodes}
+
+-- Below, u is a view.
+
+abbrev pub isValid : Mem → ℕ → Bool
+isValid u k = eqb (u (validWord k)) 1
+
+-- a valid inode other than the directory
+abbrev pub isFile : Mem → ℕ → Bool
+isFile u k = not (isDirectory k) && isValid u k
+
+-- how often page p, not 0, is a data page of a file
+unfoldable pub mappedTo : File → ℕ → ℕ
+mappedTo f p = sumBelow filePages (λ i. bit (eqb (f .page i) p))
+
+-- how often page p serves inode k: "log pages and mapped pages of valid inodes"
+unfoldable pub usesBy : Mem → ℕ → ℕ → ℕ → ℕ → ℕ
+usesBy u P N p k =
+    cond (isValid u k) (count p (pages u P N k) + cond (isDirectory k) 0 (mappedTo (fileOf u P N k) p)) 0
+
+-- how often page p serves
+unfoldable pub uses : Mem → ℕ → ℕ → ℕ → ℕ
+uses u P N p = sumBelow N (usesBy u P N p)
+
+-- "A page from T+1 up is free if it is no such log page or mapped page."
+unfoldable pub free : Mem → ℕ → ℕ → ℕ → Bool
+free u P N p = inPages P N p && eqb (uses u P N p) 0
+
+unfoldable pub freeCount : Mem → ℕ → ℕ → ℕ
+freeCount u P N = sumBelow P (λ p. bit (free u P N p))
+
+-- The bullets of the section, in its order; the journal's own are journalOk.
+
+-- "valid words [are 0 or 1], inode 0 [is valid]"
+unfoldable pub validOk : Mem → ℕ → Bool
+validOk u k = cond (isDirectory k) (isValid u k) (leb (u (validWord k)) 1)
+
+-- "tails [..] are as said above"; "Every log walk ends, inside the log and data pages."
+-- "entry kinds are as said above, and the bytes after a name are 0", and the limits of sizes, writes, names and added inodes, entry by entry
+unfoldable pub logOk : Mem → ℕ → ℕ → ℕ → Bool
+logOk u P N k =
+    isSome (logPages u P N k)
+    && cond (isDirectory k) (all (nameEntryOk N) (entries u P N k)) (all (fileEntryOk P N) (entries u P N k))
+
+-- "In the end at most 224 names stand, each names a valid file, and each valid file has a name."
+unfoldable pub namesOk : Mem → ℕ → Names → Bool
+namesOk u N ns =
+    leb (length ns) mostNames && all (isValid u) (inodes ns)
+    && allBelow N (λ k. not (isFile u k) || has k (inodes ns))
+
+-- "No page serves twice". Page 0 is none of them.
+unfoldable pub servesOnce : Mem → ℕ → ℕ → ℕ → Bool
+servesOnce u P N p = eqb p 0 || leb (uses u P N p) 1
+
+-- "In the end no mapped page starts at or after the size, and a mapped page holding the size is zero from there on."
+unfoldable pub endOk : Mem → File → Bool
+endOk u f =
+    allBelow filePages (λ i. eqb (f .page i) 0 || ltb (512 * i) (f .size))
+    && (eqb (f .size % 512) 0 || eqb (f .page (f .size / 512)) 0
+    || allBelow (512 - f .size % 512) (λ j. eqb (fileByte u f (f .size + j)) 0))
+
+-- What is asked of inode k. "Heads and tails of invalid inodes are not read."
+unfoldable pub inodeOk : Mem → ℕ → ℕ → ℕ → Bool
+inodeOk u P N k =
+    validOk u k && (not (isValid u k) || (logOk u P N k && (isDirectory k || endOk u (fileOf u P N k))))
+
+unfoldable pub viewOk : Mem → ℕ → ℕ → Bool
+viewOk u P N = allBelow N (inodeOk u P N) && namesOk u N (namesOf u P N root) && allBelow P (servesOnce u P N)
+
+-- An accepted volume, from its words m and its sizes P and N, which are within their limits.
+unfoldable pub accepted : Mem → ℕ → ℕ → Bool
+accepted m P N = journalOk m N && viewOk (view m) P N
