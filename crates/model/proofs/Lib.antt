@@ -1,4 +1,6 @@
 -- Theorems about the definitions of specs/.
 pub mod Tests
+pub mod Lists
 pub mod Words
 pub mod Power
+pub mod Log

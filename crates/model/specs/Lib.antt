@@ -14,3 +14,4 @@ pub mod Answer
 pub mod Calls
 pub mod Public
 pub mod Listing
+pub mod Claim

@@ -1,0 +1,3 @@
+-- A log in memory: its chain of pages, its slots.
+pub mod Chain
+pub mod Slots
