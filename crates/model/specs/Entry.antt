@@ -1,8 +1,8 @@
 -- Log entries of document 01, "Volume": eight words, four kinds, each with its own fields.
-use Prim.Native.Nat.{ℕ, _+_, _*_}
+use Prim.Native.Nat.{ℕ, _+_, _-_, _*_}
 use mathlib.Core.Bool.{Bool, false, cond, _&&_, not}
-use mathlib.Core.List.{List, [], _∷_}
-use lib.ListN.{length, take, drop}
+use mathlib.Core.List.{List, [], _∷_, _++_}
+use lib.ListN.{length, take, drop, replicate}
 use lib.Dec.{leb, ltb, eqb}
 use Rattle.model.specs.Lists.{all, valuesFrom}
 use Rattle.model.specs.Words.{Mem, word, byteAt}
@@ -15,6 +15,10 @@ pub data Entry : Type 0 where
   addEntry : (inode : ℕ) → (len : ℕ) → (field : List ℕ) → Entry
   removeEntry : (len : ℕ) → (field : List ℕ) → Entry
   noEntry : Entry
+
+-- a name "filled up with zeros": its 32 bytes
+unfoldable pub padded : List ℕ → List ℕ
+padded n = n ++ replicate (nameBytes - length n) 0
 
 -- the 32 bytes of the four words from w on
 unfoldable pub nameField : Mem → ℕ → List ℕ

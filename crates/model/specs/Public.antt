@@ -9,7 +9,7 @@ use Rattle.model.specs.Lists.{valuesFrom}
 use Rattle.model.specs.Words.{Mem, word, putWord}
 use Rattle.model.specs.Layout.{sizesOk, tablePages, root, nameBytes, listWords}
 use Rattle.model.specs.Journal.{isOpen, view}
-use Rattle.model.specs.Entry.{nameOk}
+use Rattle.model.specs.Entry.{nameOk, padded}
 use Rattle.model.specs.State.{fileOf, fileByte, namesOf, inodeOf}
 use Rattle.model.specs.Accept.{freeCount, accepted}
 use Rattle.model.specs.FileMap.{Call, create, link, unlink, rename, write, setSize, clean, recover}
@@ -153,9 +153,6 @@ unfoldable pub readBuffer : List ℕ → ℕ → ℕ → List ℕ → List ℕ
 readBuffer v k o buffer = filledFrom buffer (read (length v) (word v) k o (length buffer))
 
 -- "K-th name writes 32 bytes, zeros after the name, and answers the name's length; bytes past 32 stay."
-unfoldable pub padded : List ℕ → List ℕ
-padded n = n ++ replicate (nameBytes - length n) 0
-
 unfoldable pub kthNameAnswer : List ℕ → ℕ → List ℕ → Answer ℕ
 kthNameAnswer v k buffer = mapAnswer length (kthName (length v) (word v) root k (length buffer))
 
