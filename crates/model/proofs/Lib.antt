@@ -4,3 +4,5 @@ pub mod Lists
 pub mod Words
 pub mod Power
 pub mod Log
+pub mod Frame
+pub mod Crash

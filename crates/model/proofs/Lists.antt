@@ -207,6 +207,39 @@ index-getD (p ∷ ps) (suc j) d h =
     let i : j < length ps = omega arith in
     rw (ne-eqb (getD ps j 0) p (apart (getD ps j 0) p ps (c .0) (has-getD ps j i)), index-getD ps j (c .1)) (add-one j)
 
+-- a number stands at most once among distinct ones
+pub count-once : (x : ℕ) (ps : List ℕ) → distinct ps ≡ true → count x ps ≤ 1
+unfolding count
+count-once x [] d = omega arith
+count-once x (p ∷ ps) d =
+    let c = distinct-cons p ps d in
+    by-eq x p (λ e. let a = bit-same x p e in let b = count-none x ps (rw e (c .0)) in omega arith)
+    (λ e. let a = bit-other x p e in let b = count-once x ps (c .1) in omega arith)
+
+-- numbers below n, each at most once, are no more than n
+
+sum-both : (n : ℕ) (f g : ℕ → ℕ) → sumBelow n f + sumBelow n g ≤ sumBelow n (λ i. f i + g i)
+unfolding sumBelow
+sum-both zero f g = omega arith
+sum-both (suc n) f g = let r = sum-both n f g in omega arith
+
+sum-ones : (n : ℕ) (f : ℕ → ℕ) → ((i : ℕ) → f i ≤ 1) → sumBelow n f ≤ n
+unfolding sumBelow
+sum-ones zero f h = omega arith
+sum-ones (suc n) f h = let a = h n in let r = sum-ones n f h in omega arith
+
+sum-counts : (n : ℕ) (xs : List ℕ) → ((x : ℕ) → has x xs ≡ true → x < n) → length xs ≤ sumBelow n (λ i. count i xs)
+unfolding count
+sum-counts n [] h = omega arith
+sum-counts n (x ∷ xs) h =
+    let r = sum-counts n xs (λ y g. h y (has-tail y x xs g)) in
+    let a : bit (eqb x x) ≤ sumBelow n (λ i. bit (eqb i x)) = sumBelow-one n x (λ i. bit (eqb i x)) (h x (has-head x xs)) in
+    let b = bit-same x x refl in
+    let c = sum-both n (λ i. bit (eqb i x)) (λ i. count i xs) in omega arith
+
+pub fit : (n : ℕ) (xs : List ℕ) → ((x : ℕ) → has x xs ≡ true → x < n) → ((x : ℕ) → count x xs ≤ 1) → length xs ≤ n
+fit n xs h c = let a = sum-counts n xs h in let b = sum-ones n (λ i. count i xs) c in omega arith
+
 -- The lowest few: each is one that was sought, there are no more than were asked for, and they ascend.
 
 module _ (f : ℕ → Bool) where

@@ -1,0 +1,420 @@
+//! The changing calls: format, create, link, unlink, rename, write, set size, clean, recover.
+//!
+//! All but format leave the volume alone and fill a store list; they answer the count of words
+//! filled, 0 if there is nothing to change. All is judged before the first word is filled.
+
+use crate::accept::{judge, judge_closed, Volume};
+use crate::commit::{append, commit, commit_journalled, data_stores, lay};
+use crate::layout::{
+    allowed_name, head_word, set_word, tail_word, valid_word, Sizes, DEQUEUE_WORD, DIRECTORY,
+    FORMAT_WORD, INODES_WORD, LIST_WORDS, NAME_LIMIT, PAGES_WORD, PAGE_BYTES, SIZE_LIMIT,
+    WRITE_LIMIT,
+};
+use crate::log::{Entry, File};
+use crate::space::Space;
+use crate::stores::{fill, Store};
+use crate::{Answer, Refusal};
+
+/// Format: makes the slice an empty volume of `pages` pages and `inodes` inodes.
+///
+/// Zeroes pages 0 to T and sets words 0, 1, 2 and 64; leaves the other pages' bytes. It works
+/// directly, without a store list. The refusal is 2, from the slice length, P and N alone.
+///
+/// ```
+/// use reference::{format, free_count, Refusal};
+///
+/// let mut volume = vec![7; 16 * 512];
+/// assert_eq!(format(&mut volume, 16, 9), Err(Refusal::NoVolume));
+/// assert_eq!(format(&mut volume, 16, 8), Ok(()));
+/// assert_eq!(free_count(&volume), Ok(14));
+/// ```
+pub fn format(volume: &mut [u8], pages: u64, inodes: u64) -> Result<(), Refusal> {
+    let sizes = Sizes::new(volume.len(), pages, inodes)?;
+    volume[..(sizes.first_page() * PAGE_BYTES) as usize].fill(0);
+    set_word(volume, PAGES_WORD, pages);
+    set_word(volume, INODES_WORD, inodes);
+    set_word(volume, FORMAT_WORD, 1);
+    set_word(volume, valid_word(DIRECTORY), 1);
+    Ok(())
+}
+
+/// Create: adds a name with the lowest invalid inode, an empty file.
+///
+/// The refusals are 1, 2, 3, 4, 5, 7, 10, 11 and 12.
+///
+/// ```
+/// use reference::{carry_out, create, find, format, Refusal};
+///
+/// let mut volume = vec![0; 16 * 512];
+/// let mut list = vec![0; 4096];
+/// format(&mut volume, 16, 8)?;
+///
+/// let count = create(&volume, b"A1", &mut list)?;
+/// assert_eq!(count, 46);
+/// assert_eq!(find(&volume, b"A1"), Err(Refusal::NotThere));
+/// carry_out(&mut volume, &list, count)?;
+/// assert_eq!(find(&volume, b"A1"), Ok(1));
+/// assert_eq!(create(&volume, b"A1", &mut list), Err(Refusal::Taken));
+/// # Ok::<(), Refusal>(())
+/// ```
+pub fn create(volume: &[u8], name: &[u8], list: &mut [u64]) -> Answer {
+    let volume = judge_for_change(volume, list)?;
+    check_name(name)?;
+    check_absent(&volume, name)?;
+    let inode = volume.lowest_invalid_inode().ok_or(Refusal::NoInode)?;
+    check_room_for_name(&volume)?;
+    let empty_log = vec![(head_word(inode), 0), (tail_word(inode), 0)];
+    let add = Entry::Add { inode, name };
+    change_names(
+        &volume,
+        list,
+        &[add],
+        empty_log,
+        Some((valid_word(inode), 1)),
+    )
+}
+
+/// Link: adds the new name with the old one's inode.
+///
+/// The refusals are 1, 2, 3, 4, 5, 6, 7, 11 and 12.
+pub fn link(volume: &[u8], old: &[u8], new: &[u8], list: &mut [u64]) -> Answer {
+    let volume = judge_for_change(volume, list)?;
+    check_name(old)?;
+    check_name(new)?;
+    let inode = find_name(&volume, old)?;
+    check_absent(&volume, new)?;
+    check_room_for_name(&volume)?;
+    let add = Entry::Add { inode, name: new };
+    change_names(&volume, list, &[add], Vec::new(), None)
+}
+
+/// Unlink: removes the name; a file left without a name goes.
+///
+/// The refusals are 1, 2, 3, 4, 5, 6 and 12.
+pub fn unlink(volume: &[u8], name: &[u8], list: &mut [u64]) -> Answer {
+    let volume = judge_for_change(volume, list)?;
+    check_name(name)?;
+    let inode = find_name(&volume, name)?;
+    let gone = last_name_taken(&volume, inode);
+    change_names(&volume, list, &[Entry::Remove { name }], Vec::new(), gone)
+}
+
+/// Rename: removes the old name and adds the new with its inode; a file left without a name goes.
+///
+/// If both names lead to one inode, nothing changes. The refusals are 1, 2, 3, 4, 5, 6 and 12.
+pub fn rename(volume: &[u8], old: &[u8], new: &[u8], list: &mut [u64]) -> Answer {
+    let volume = judge_for_change(volume, list)?;
+    check_name(old)?;
+    check_name(new)?;
+    let inode = find_name(&volume, old)?;
+    let replaced = volume.inode_of(new);
+    if replaced == Some(inode) {
+        return Ok(0);
+    }
+    let gone = replaced.and_then(|replaced| last_name_taken(&volume, replaced));
+    let entries = [Entry::Remove { name: old }, Entry::Add { inode, name: new }];
+    change_names(&volume, list, &entries, Vec::new(), gone)
+}
+
+/// Write: lays the bytes over the file's from the offset on, in fresh data pages.
+///
+/// 0 bytes changes nothing. The refusals are 1, 2, 3, 4, 6, 8, 9 and 12.
+pub fn write(volume: &[u8], inode: u64, offset: u64, bytes: &[u8], list: &mut [u64]) -> Answer {
+    let volume = judge_for_change(volume, list)?;
+    let file = find_file(&volume, inode)?;
+    if bytes.len() > WRITE_LIMIT {
+        return Err(Refusal::LongWrite);
+    }
+    let end = offset.saturating_add(bytes.len() as u64);
+    check_size(end)?;
+    if bytes.is_empty() {
+        return Ok(0);
+    }
+    let file_page = offset / PAGE_BYTES;
+    let count = end.div_ceil(PAGE_BYTES) - file_page;
+    let mut fresh = vec![0; (count * PAGE_BYTES) as usize];
+    volume.copy_file(file, file_page * PAGE_BYTES, &mut fresh);
+    let start = (offset % PAGE_BYTES) as usize;
+    fresh[start..start + bytes.len()].copy_from_slice(bytes);
+
+    let mut space = Space::of(&volume);
+    let data_page = space.take_run(count as usize)?;
+    let entry = Entry::Write {
+        file_page,
+        data_page,
+        count,
+        size: file.size.max(end),
+    };
+    change_file(
+        &volume,
+        list,
+        space,
+        inode,
+        &[entry],
+        data_stores(data_page, &fresh),
+    )
+}
+
+/// Set size: cuts or lengthens the file to a size.
+///
+/// The equal size changes nothing. The refusals are 1, 2, 3, 4, 6, 9 and 12.
+pub fn set_size(volume: &[u8], inode: u64, size: u64, list: &mut [u64]) -> Answer {
+    let volume = judge_for_change(volume, list)?;
+    let file = find_file(&volume, inode)?;
+    check_size(size)?;
+    if size == file.size {
+        return Ok(0);
+    }
+    let mut space = Space::of(&volume);
+    let cut = Entry::SetSize { size };
+    let file_page = size / PAGE_BYTES;
+    let kept = (size % PAGE_BYTES) as usize;
+    if size > file.size || kept == 0 || file.data_page(file_page).is_none() {
+        return change_file(&volume, list, space, inode, &[cut], std::iter::empty());
+    }
+    let mut fresh = [0; PAGE_BYTES as usize];
+    volume.copy_file(file, file_page * PAGE_BYTES, &mut fresh[..kept]);
+    let data_page = space.take_page()?;
+    let copy = Entry::Write {
+        file_page,
+        data_page,
+        count: 1,
+        size,
+    };
+    change_file(
+        &volume,
+        list,
+        space,
+        inode,
+        &[cut, copy],
+        data_stores(data_page, &fresh),
+    )
+}
+
+/// Clean: writes an inode's log anew, with only the entries that it needs in the end.
+///
+/// Inode 0 is allowed. A log whose tail is 0 changes nothing. The refusals are 1, 2, 3, 4, 6
+/// and 12.
+pub fn clean(volume: &[u8], inode: u64, list: &mut [u64]) -> Answer {
+    let volume = judge_for_change(volume, list)?;
+    let log = volume.logs.get(&inode).ok_or(Refusal::NotThere)?;
+    if log.tail == 0 {
+        return Ok(0);
+    }
+    let entries = match volume.files.get(&inode) {
+        Some(file) => file_entries(file),
+        None => directory_entries(&volume),
+    };
+    let laid = lay(&mut Space::of(&volume), 0, &entries)?;
+    let targets = [
+        (head_word(inode), laid.head.unwrap_or(0)),
+        (tail_word(inode), laid.tail),
+    ];
+    commit_journalled(&volume, list, laid.stores, &targets)
+}
+
+/// Recover: if the journal is open, puts the old values back and closes it.
+///
+/// The refusals are 1, 2 and 3.
+pub fn recover(volume: &[u8], list: &mut [u64]) -> Answer {
+    check_list(list)?;
+    let journal = judge(volume)?.journal;
+    if !journal.is_open() {
+        return Ok(0);
+    }
+    let old_values = journal.open.iter().map(|entry| (entry.target, entry.old));
+    let closed = (DEQUEUE_WORD, journal.enqueue.number());
+    Ok(fill(list, vec![old_values.collect(), vec![closed]]))
+}
+
+/// The checks that come before the arguments: the refusals 1, 2, 3 and 4.
+fn judge_for_change<'v>(volume: &'v [u8], list: &[u64]) -> Result<Volume<'v>, Refusal> {
+    check_list(list)?;
+    judge_closed(volume)
+}
+
+fn check_list(list: &[u64]) -> Result<(), Refusal> {
+    if list.len() < LIST_WORDS {
+        return Err(Refusal::ShortMemory);
+    }
+    Ok(())
+}
+
+pub(crate) fn check_name(name: &[u8]) -> Result<(), Refusal> {
+    if !allowed_name(name) {
+        return Err(Refusal::BadName);
+    }
+    Ok(())
+}
+
+pub(crate) fn find_name(volume: &Volume<'_>, name: &[u8]) -> Answer {
+    volume.inode_of(name).ok_or(Refusal::NotThere)
+}
+
+pub(crate) fn find_file<'a>(volume: &'a Volume<'_>, inode: u64) -> Result<&'a File, Refusal> {
+    volume.files.get(&inode).ok_or(Refusal::NotThere)
+}
+
+fn check_absent(volume: &Volume<'_>, name: &[u8]) -> Result<(), Refusal> {
+    if volume.inode_of(name).is_some() {
+        return Err(Refusal::Taken);
+    }
+    Ok(())
+}
+
+fn check_size(size: u64) -> Result<(), Refusal> {
+    if size > SIZE_LIMIT {
+        return Err(Refusal::PastTheEnd);
+    }
+    Ok(())
+}
+
+fn check_room_for_name(volume: &Volume<'_>) -> Result<(), Refusal> {
+    if volume.names.len() >= NAME_LIMIT {
+        return Err(Refusal::DirectoryFull);
+    }
+    Ok(())
+}
+
+/// The store that makes an inode invalid, if a call takes its last name away.
+fn last_name_taken(volume: &Volume<'_>, inode: u64) -> Option<Store> {
+    (volume.name_count(inode) == 1).then_some((valid_word(inode), 0))
+}
+
+/// Appends entries to the directory. Its tail commits them, together with a valid word if one
+/// must change too.
+fn change_names(
+    volume: &Volume<'_>,
+    list: &mut [u64],
+    entries: &[Entry<'_>],
+    mut preparation: Vec<Store>,
+    valid: Option<Store>,
+) -> Answer {
+    let appended = append(volume, &mut Space::of(volume), DIRECTORY, entries)?;
+    preparation.extend(appended.stores);
+    match valid {
+        Some(valid) => commit_journalled(volume, list, preparation, &[appended.tail, valid]),
+        None => commit(list, preparation, appended.tail),
+    }
+}
+
+/// Appends entries to a file's log, with fresh data pages; its tail commits them.
+fn change_file(
+    volume: &Volume<'_>,
+    list: &mut [u64],
+    mut space: Space,
+    inode: u64,
+    entries: &[Entry<'_>],
+    data: impl Iterator<Item = Store>,
+) -> Answer {
+    let appended = append(volume, &mut space, inode, entries)?;
+    let preparation = data.chain(appended.stores).collect();
+    commit(list, preparation, appended.tail)
+}
+
+/// The directory's clean log: one add for each name, in list order.
+fn directory_entries<'v>(volume: &Volume<'v>) -> Vec<Entry<'v>> {
+    let names = volume.names.iter();
+    names
+        .map(|&(name, inode)| Entry::Add { inode, name })
+        .collect()
+}
+
+/// A file's clean log: one write for each longest stretch of consecutive file pages on
+/// consecutive data pages; with no mapped page, one set size if the size is not 0.
+fn file_entries(file: &File) -> Vec<Entry<'static>> {
+    let size = file.size;
+    let mut stretches: Vec<(u64, u64, u64)> = Vec::new();
+    for (file_page, data_page) in file.mapped() {
+        match stretches.last_mut() {
+            Some((first_file, first_data, count))
+                if *first_file + *count == file_page && *first_data + *count == data_page =>
+            {
+                *count += 1;
+            }
+            _ => stretches.push((file_page, data_page, 1)),
+        }
+    }
+    if stretches.is_empty() && size != 0 {
+        return vec![Entry::SetSize { size }];
+    }
+    let write = |(file_page, data_page, count)| Entry::Write {
+        file_page,
+        data_page,
+        count,
+        size,
+    };
+    stretches.into_iter().map(write).collect()
+}
+
+/// A changing call that fills a store list, with its arguments.
+#[derive(Clone, Debug, PartialEq, Eq)]
+pub enum Call {
+    /// See [`create`].
+    Create {
+        /// The name to add.
+        name: Vec<u8>,
+    },
+    /// See [`link`].
+    Link {
+        /// The name that stands.
+        old: Vec<u8>,
+        /// The name to add.
+        new: Vec<u8>,
+    },
+    /// See [`unlink`].
+    Unlink {
+        /// The name to remove.
+        name: Vec<u8>,
+    },
+    /// See [`rename`].
+    Rename {
+        /// The name to remove.
+        old: Vec<u8>,
+        /// The name to add.
+        new: Vec<u8>,
+    },
+    /// See [`write()`].
+    Write {
+        /// The file's inode.
+        inode: u64,
+        /// The offset of the first byte.
+        offset: u64,
+        /// The bytes to lay over the file's.
+        bytes: Vec<u8>,
+    },
+    /// See [`set_size`].
+    SetSize {
+        /// The file's inode.
+        inode: u64,
+        /// The size to set.
+        size: u64,
+    },
+    /// See [`clean`].
+    Clean {
+        /// The inode of the log.
+        inode: u64,
+    },
+    /// See [`recover`].
+    Recover,
+}
+
+impl Call {
+    /// Makes the call: fills the store list and answers the count of words, or the refusal.
+    pub fn fill(&self, volume: &[u8], list: &mut [u64]) -> Answer {
+        match self {
+            Call::Create { name } => create(volume, name, list),
+            Call::Link { old, new } => link(volume, old, new, list),
+            Call::Unlink { name } => unlink(volume, name, list),
+            Call::Rename { old, new } => rename(volume, old, new, list),
+            Call::Write {
+                inode,
+                offset,
+                bytes,
+            } => write(volume, *inode, *offset, bytes, list),
+            Call::SetSize { inode, size } => set_size(volume, *inode, *size, list),
+            Call::Clean { inode } => clean(volume, *inode, list),
+            Call::Recover => recover(volume, list),
+        }
+    }
+}

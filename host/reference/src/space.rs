@@ -1,0 +1,37 @@
+//! The free pages that a call may take.
+
+use crate::accept::{Use, Volume};
+use crate::Refusal;
+
+/// The pages still free to a call. Pages that the call lets go are not among them.
+pub(crate) struct Space {
+    free: Vec<bool>,
+}
+
+impl Space {
+    /// The free pages of a volume.
+    pub(crate) fn of(volume: &Volume<'_>) -> Space {
+        Space {
+            free: volume.uses.iter().map(|&page| page == Use::Free).collect(),
+        }
+    }
+
+    /// Takes the lowest run of `count` free pages; answers its first page. The refusal is 12.
+    pub(crate) fn take_run(&mut self, count: usize) -> Result<u64, Refusal> {
+        let mut length = 0;
+        for page in 0..self.free.len() {
+            length = if self.free[page] { length + 1 } else { 0 };
+            if length == count {
+                let first = page + 1 - count;
+                self.free[first..=page].fill(false);
+                return Ok(first as u64);
+            }
+        }
+        Err(Refusal::NoSpace)
+    }
+
+    /// Takes the lowest free page. The refusal is 12.
+    pub(crate) fn take_page(&mut self) -> Result<u64, Refusal> {
+        self.take_run(1)
+    }
+}

@@ -1,0 +1,462 @@
+//! Random lists of calls with power cuts, and recoveries cut and run through: the third demand by
+//! running, and what else holds of every call.
+
+mod common;
+
+use common::*;
+use reference::layout::{set_word, tail_word, word};
+use reference::random::Random;
+use reference::{
+    carry_out, cut, free_count, groups, judge, kth_name, land, map_after, read, refused_by_map,
+    size, Call, FileMap, Refusal, Use, Volume,
+};
+
+/// A history: a volume that calls and cuts change, and the map that it must have.
+struct History {
+    random: Random,
+    volume: Vec<u8>,
+    inodes: u64,
+    counts: Counts,
+}
+
+/// How often things happened; a test that never reaches them would show nothing.
+#[derive(Default)]
+struct Counts {
+    landed: u64,
+    cut: u64,
+    left_open: u64,
+    refused: [u64; 14],
+}
+
+impl History {
+    fn new(seed: u64, pages: u64, inodes: u64) -> History {
+        let mut random = Random::new(seed);
+        let mut volume = random.bytes(pages as usize * 512);
+        assert_eq!(reference::format(&mut volume, pages, inodes), Ok(()));
+        let position = random.below(16);
+        set_word(&mut volume, 8, position);
+        set_word(&mut volume, 9, position);
+        History {
+            random,
+            volume,
+            inodes,
+            counts: Counts::default(),
+        }
+    }
+
+    /// One call: refused, landed, or cut.
+    fn step(&mut self) {
+        let before = map_of(&self.volume);
+        let open = judge(&self.volume).unwrap().journal.is_open();
+        let call = if open && !self.random.once_in(4) {
+            Call::Recover
+        } else {
+            self.any_call(&before)
+        };
+        let expected = self.expected_refusal(&before, open, &call);
+        let list = match filled(&self.volume, &call) {
+            Err(refusal) => {
+                assert_eq!(Some(refusal), expected, "{call:?}");
+                self.counts.refused[refusal.number() as usize] += 1;
+                return;
+            }
+            Ok(list) => list,
+        };
+        assert_eq!(expected, None, "{call:?}");
+        assert!(list.len() <= longest_list(&call), "{call:?}");
+        check_places(&judge(&self.volume).unwrap(), &call, &list);
+        let after = map_after(&before, self.inodes, &call);
+        self.try_cuts(&list, &before, &after);
+        if self.random.once_in(3) {
+            self.cut_call(&list, &before, &after);
+        } else {
+            self.land_call(&list, &after);
+        }
+    }
+
+    /// The refusal that document 01 gives the call, worked out beside the library.
+    fn expected_refusal(&self, before: &FileMap, open: bool, call: &Call) -> Option<Refusal> {
+        if open {
+            return (*call != Call::Recover).then_some(Refusal::JournalOpen);
+        }
+        let volume = judge(&self.volume).unwrap();
+        refused_by_map(before, self.inodes, call)
+            .or_else(|| (!has_space(&volume, before, call)).then_some(Refusal::NoSpace))
+    }
+
+    fn land_call(&mut self, list: &[u64], after: &FileMap) {
+        let mut carried = self.volume.clone();
+        assert_eq!(carry_out(&mut carried, list, list.len() as u64), Ok(()));
+        land(&mut self.volume, list);
+        assert_eq!(self.volume, carried, "landed whole is carried out");
+        assert_eq!(map_of(&self.volume), *after);
+        assert!(!judge(&self.volume).unwrap().journal.is_open());
+        self.counts.landed += 1;
+    }
+
+    /// Cuts the call for good: the volume stays as the cut left it.
+    fn cut_call(&mut self, list: &[u64], before: &FileMap, after: &FileMap) {
+        random_cut(&mut self.random, &mut self.volume, list);
+        let map = map_of(&self.volume);
+        assert!(map == *before || map == *after);
+        self.counts.cut += 1;
+        if judge(&self.volume).unwrap().journal.is_open() {
+            self.counts.left_open += 1;
+        }
+    }
+
+    /// Cuts copies of the volume, and recovers them with further cuts.
+    fn try_cuts(&mut self, list: &[u64], before: &FileMap, after: &FileMap) {
+        for _ in 0..3 {
+            let mut broken = self.volume.clone();
+            random_cut(&mut self.random, &mut broken, list);
+            let map = map_of(&broken);
+            assert!(map == *before || map == *after);
+            for _ in 0..self.random.below(3) {
+                let recovery = filled(&broken, &Call::Recover).unwrap();
+                random_cut(&mut self.random, &mut broken, &recovery);
+                assert_eq!(map_of(&broken), map, "a cut recovery keeps the map");
+            }
+            done(&mut broken, &Call::Recover);
+            assert_eq!(map_of(&broken), map, "a recovery keeps the map");
+            assert!(!judge(&broken).unwrap().journal.is_open());
+        }
+    }
+
+    /// Checks the reading calls against the map.
+    fn check_readings(&mut self) {
+        let map = map_of(&self.volume);
+        if judge(&self.volume).unwrap().journal.is_open() {
+            assert_eq!(free_count(&self.volume), Err(Refusal::JournalOpen));
+            return;
+        }
+        for (k, (name, inode)) in map.names.iter().enumerate() {
+            let mut buffer = [7; 33];
+            let answer = kth_name(&self.volume, k as u64, &mut buffer);
+            assert_eq!(answer, Ok(name.len() as u64));
+            assert_eq!(buffer[..name.len()], name[..]);
+            assert!(buffer[name.len()..32].iter().all(|&byte| byte == 0));
+            assert_eq!(buffer[32], 7);
+            assert_eq!(reference::find(&self.volume, name), Ok(*inode));
+        }
+        for (&inode, bytes) in &map.files {
+            assert_eq!(size(&self.volume, inode), Ok(bytes.len() as u64));
+            let offset = self.random.below(bytes.len() as u64 + 2);
+            let mut buffer = vec![7; self.random.below(2_000) as usize];
+            let count = read(&self.volume, inode, offset, &mut buffer).unwrap() as usize;
+            let rest = bytes.get(offset as usize..).unwrap_or(&[]);
+            assert_eq!(count, rest.len().min(buffer.len()));
+            assert_eq!(buffer[..count], rest[..count]);
+            assert!(buffer[count..].iter().all(|&byte| byte == 7));
+        }
+    }
+}
+
+/// Cuts a list in a random group: nothing, everything, or any set of its words kept.
+fn random_cut(random: &mut Random, volume: &mut [u8], list: &[u64]) {
+    let group = random.below(groups(list).len() as u64) as usize;
+    match random.below(4) {
+        0 => cut(volume, list, group, |_| true),
+        1 => {
+            let left_out = random.below(4);
+            cut(volume, list, group, |_| random.below(4) != left_out);
+        }
+        _ => cut(volume, list, group, |_| random.once_in(2)),
+    }
+}
+
+/// Random calls, mostly about what stands.
+impl History {
+    fn any_call(&mut self, map: &FileMap) -> Call {
+        match self.random.below(20) {
+            0..=3 => create(&self.any_name(map, 1)),
+            4..=5 => link(&self.any_name(map, 7), &self.any_name(map, 2)),
+            6 => unlink(&self.any_name(map, 7)),
+            7..=8 => rename(&self.any_name(map, 7), &self.any_name(map, 5)),
+            9..=14 => self.any_write(map),
+            15..=17 => {
+                let inode = self.any_inode(map);
+                set_size(inode, self.any_offset(map, inode))
+            }
+            18 => clean(self.any_inode(map)),
+            _ => Call::Recover,
+        }
+    }
+
+    /// A name; about `standing` in 8 times one that stands.
+    fn any_name(&mut self, map: &FileMap, standing: u64) -> Vec<u8> {
+        if self.random.below(8) < standing {
+            if let Some((name, _)) = self.random.choose(&map.names) {
+                return name.clone();
+            }
+        }
+        let length = match self.random.below(40) {
+            0 => 0,
+            1 => 33,
+            2..=5 => 32,
+            _ => self.random.between(1, 3) as usize,
+        };
+        let mut name = vec![97 + self.random.below(12) as u8; length];
+        match self.random.below(80) {
+            0 => name.push(0),
+            1 => name.insert(0, b'/'),
+            _ => {}
+        }
+        name
+    }
+
+    fn any_inode(&mut self, map: &FileMap) -> u64 {
+        let valid: Vec<u64> = map.files.keys().copied().collect();
+        match self.random.below(16) {
+            0 => self.random.number(),
+            1 => self.random.below(self.inodes + 2),
+            2 => 0,
+            _ => self.random.choose(&valid).copied().unwrap_or(1),
+        }
+    }
+
+    /// An offset or size: often near the file's end, a page boundary or the limit.
+    fn any_offset(&mut self, map: &FileMap, inode: u64) -> u64 {
+        let size = map.files.get(&inode).map_or(0, |bytes| bytes.len() as u64);
+        let base = match self.random.below(12) {
+            0 => return self.random.number(),
+            1 => 65_536,
+            2..=3 => self.random.below(65_536),
+            4..=6 => size,
+            7..=8 => 512 * self.random.below(12),
+            _ => return self.random.below(4_096),
+        };
+        (base + self.random.below(4)).saturating_sub(2)
+    }
+
+    fn any_write(&mut self, map: &FileMap) -> Call {
+        let inode = self.any_inode(map);
+        let offset = self.any_offset(map, inode);
+        let length = match self.random.below(12) {
+            0 => 0,
+            1 => 4_097,
+            2 => 4_096,
+            3..=4 => self.random.below(4_096),
+            5..=7 => self.random.below(1_400),
+            _ => self.random.below(20),
+        };
+        let zeros = self.random.once_in(8);
+        let bytes = if zeros {
+            vec![0; length as usize]
+        } else {
+            self.random.bytes(length as usize)
+        };
+        write(inode, offset, &bytes)
+    }
+}
+
+/// The longest list of each call, in words.
+fn longest_list(call: &Call) -> usize {
+    match call {
+        Call::Create { .. } => 46,
+        Call::Link { .. } => 24,
+        Call::Unlink { .. } => 42,
+        Call::Rename { .. } => 58,
+        Call::Write { .. } => 1_176,
+        Call::SetSize { .. } => 168,
+        Call::Clean { inode: 0 } => 3_670,
+        Call::Clean { .. } => 2_108,
+        Call::Recover => 14,
+    }
+}
+
+/// What a call that changes something needs: a run of data pages, and log pages.
+struct Need {
+    run: u64,
+    log_pages: u64,
+}
+
+/// What a call needs, worked out from counts alone; none if it changes nothing.
+fn need(volume: &Volume<'_>, map: &FileMap, call: &Call) -> Option<Need> {
+    let appended = |inode: u64, run: u64, more: u64| {
+        let entries = log_entries(volume, inode);
+        let log_pages = (entries + more).div_ceil(7) - entries.div_ceil(7);
+        Some(Need { run, log_pages })
+    };
+    match call {
+        Call::Create { .. } | Call::Link { .. } | Call::Unlink { .. } => appended(0, 0, 1),
+        Call::Rename { old, new } if map.inode_of(old) == map.inode_of(new) => None,
+        Call::Rename { .. } => appended(0, 0, 2),
+        Call::Write { bytes, .. } if bytes.is_empty() => None,
+        Call::Write {
+            inode,
+            offset,
+            bytes,
+        } => {
+            let last = (offset + bytes.len() as u64 - 1) / 512;
+            appended(*inode, last - offset / 512 + 1, 1)
+        }
+        Call::SetSize { inode, size } => {
+            let file = &volume.files[inode];
+            let inside = *size < file.size && size % 512 != 0;
+            if *size == file.size {
+                None
+            } else if inside && file.data_page(size / 512).is_some() {
+                appended(*inode, 1, 2)
+            } else {
+                appended(*inode, 0, 1)
+            }
+        }
+        Call::Clean { inode } => {
+            let log_pages = clean_entries(volume, *inode).div_ceil(7);
+            (log_entries(volume, *inode) > 0).then_some(Need { run: 0, log_pages })
+        }
+        Call::Recover => None,
+    }
+}
+
+/// The count of entries in a log.
+fn log_entries(volume: &Volume<'_>, inode: u64) -> u64 {
+    match volume.logs[&inode].pages.len() as u64 {
+        0 => 0,
+        pages => 7 * (pages - 1) + volume.logs[&inode].tail % 512 / 64,
+    }
+}
+
+/// The count of entries that a log has once it is clean.
+fn clean_entries(volume: &Volume<'_>, inode: u64) -> u64 {
+    if inode == 0 {
+        return volume.names.len() as u64;
+    }
+    let file = &volume.files[&inode];
+    let starts = (0..128).filter(|&page| match file.data_page(page) {
+        None => false,
+        Some(data) => page == 0 || file.data_page(page - 1) != Some(data - 1),
+    });
+    match starts.count() as u64 {
+        0 => u64::from(file.size != 0),
+        count => count,
+    }
+}
+
+/// The lowest run of free pages, and the lowest pages left for the log; none if there is no space.
+fn places(volume: &Volume<'_>, need: &Need) -> Option<Vec<u64>> {
+    let pages = 0..volume.sizes.pages();
+    let free: Vec<u64> = pages
+        .filter(|&page| volume.uses[page as usize] == Use::Free)
+        .collect();
+    let is_run = |&first: &u64| (first..first + need.run).all(|page| free.contains(&page));
+    let mut taken: Vec<u64> = Vec::new();
+    if need.run > 0 {
+        let first = free.iter().copied().find(is_run)?;
+        taken.extend(first..first + need.run);
+    }
+    let left = free.iter().filter(|page| !taken.contains(page));
+    let log: Vec<u64> = left.take(need.log_pages as usize).copied().collect();
+    let enough = log.len() as u64 == need.log_pages;
+    taken.extend(log);
+    enough.then_some(taken)
+}
+
+fn has_space(volume: &Volume<'_>, map: &FileMap, call: &Call) -> bool {
+    need(volume, map, call).is_none_or(|need| places(volume, &need).is_some())
+}
+
+/// Checks that log and data pages are stored only where the call may: the lowest free pages, and
+/// the log's last page from the tail on.
+fn check_places(volume: &Volume<'_>, call: &Call, list: &[u64]) {
+    let map = reference::map(volume);
+    let Some(need) = need(volume, &map, call) else {
+        assert_eq!(list.is_empty(), !volume.journal.is_open(), "{call:?}");
+        return;
+    };
+    let inode = match call {
+        Call::Write { inode, .. } | Call::SetSize { inode, .. } | Call::Clean { inode } => *inode,
+        _ => 0,
+    };
+    let tail = volume.word(tail_word(inode));
+    let mut taken = places(volume, &need).unwrap();
+    let first_word = volume.sizes.first_page() * 64;
+    let stores: Vec<(u64, u64)> = groups(list).concat();
+    for &(index, _) in stores.iter().filter(|store| store.0 >= first_word) {
+        let behind_tail = index / 64 == tail / 512 && index >= tail / 8;
+        assert!(taken.contains(&(index / 64)) || behind_tail, "{call:?}");
+    }
+    taken.retain(|page| !stores.iter().any(|store| store.0 / 64 == *page));
+    assert!(taken.is_empty(), "every page taken is stored to");
+}
+
+/// Runs a history and answers its counts.
+fn history(seed: u64, pages: u64, inodes: u64, calls: u64) -> Counts {
+    let mut history = History::new(seed, pages, inodes);
+    for number in 0..calls {
+        history.step();
+        if number % 8 == 0 {
+            history.check_readings();
+        }
+    }
+    history.counts
+}
+
+#[test]
+fn small_volumes() {
+    let mut total = Counts::default();
+    for seed in 0..30 {
+        let mut random = Random::new(1_000 + seed);
+        let inodes = 8 * random.between(1, 4);
+        let pages = random.between(16, 40);
+        let counts = history(seed, pages, inodes, 100);
+        total.landed += counts.landed;
+        total.cut += counts.cut;
+        total.left_open += counts.left_open;
+        for (sum, count) in total.refused.iter_mut().zip(counts.refused) {
+            *sum += count;
+        }
+    }
+    assert!(total.landed > 500 && total.cut > 200 && total.left_open > 40);
+    for number in [4, 5, 6, 7, 8, 9, 10, 12] {
+        assert!(total.refused[number] > 5, "{number}: {:?}", total.refused);
+    }
+    for number in [1, 2, 3, 13] {
+        assert_eq!(total.refused[number], 0);
+    }
+}
+
+#[test]
+fn the_smallest_volume() {
+    history(77, 16, 8, 400);
+}
+
+#[test]
+fn many_inodes_on_few_pages() {
+    history(78, 16, 96, 200);
+    history(79, 36, 256, 200);
+}
+
+#[test]
+fn large_volumes() {
+    history(80, 300, 32, 120);
+    history(81, 700, 256, 80);
+    history(82, 4_096, 64, 8);
+}
+
+/// Long directories: names are only added, until the directory or the inodes are full.
+#[test]
+fn a_directory_that_fills_up() {
+    let mut history = History::new(83, 120, 256);
+    for number in 0..230 {
+        let call = if number % 5 == 4 {
+            link(&numbered(number - 1), &numbered(number))
+        } else {
+            create(&numbered(number))
+        };
+        let before = map_of(&history.volume);
+        let expected = history.expected_refusal(&before, false, &call);
+        let result = filled(&history.volume, &call);
+        assert_eq!(result.as_ref().err().copied(), expected);
+        assert_eq!(expected.is_some(), number >= 224);
+        if let Ok(list) = result {
+            history.land_call(&list, &map_after(&before, 256, &call));
+        }
+    }
+    for _ in 0..40 {
+        history.step();
+    }
+    let volume = history.volume.clone();
+    assert_eq!(word(&volume, 0), 120);
+}

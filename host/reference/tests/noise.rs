@@ -1,0 +1,398 @@
+//! Noise: random bytes, changed bits and words of accepted volumes, odd lengths, huge numbers,
+//! random logs. Every call returns, refusals leave lent memory as it was, and what is accepted is
+//! treated as the rules say.
+
+mod common;
+
+use common::*;
+use reference::layout::{set_word, word};
+use reference::random::Random;
+use reference::{
+    carry_out, cut, find, format, free_count, groups, judge, kth_name, land, listing, map,
+    map_after, read, refused_by_map, size, Answer, Call, Refusal, FENCE,
+};
+
+/// Numbers at which sums wrap, limits end and types narrow.
+const NUMBERS: [u64; 22] = [
+    0,
+    1,
+    2,
+    7,
+    8,
+    31,
+    33,
+    127,
+    128,
+    448,
+    511,
+    512,
+    4_096,
+    65_535,
+    65_536,
+    65_537,
+    1 << 32,
+    (1 << 32) + 1,
+    1 << 55,
+    1 << 61,
+    u64::MAX - 511,
+    u64::MAX,
+];
+
+fn any_number(random: &mut Random) -> u64 {
+    match random.below(4) {
+        0 => random.number(),
+        1 => random.below(70_000),
+        2 => random.below(10),
+        _ => NUMBERS[random.below(NUMBERS.len() as u64) as usize],
+    }
+}
+
+fn any_name(random: &mut Random) -> Vec<u8> {
+    match random.below(4) {
+        0 => {
+            let length = random.below(40) as usize;
+            random.bytes(length)
+        }
+        1 => vec![97; random.below(40) as usize],
+        _ => vec![97 + random.below(5) as u8],
+    }
+}
+
+fn any_calls(random: &mut Random) -> Vec<Call> {
+    let length = match random.below(3) {
+        0 => random.below(5_000),
+        _ => random.below(700),
+    };
+    let bytes = random.bytes(length as usize);
+    vec![
+        create(&any_name(random)),
+        link(&any_name(random), &any_name(random)),
+        unlink(&any_name(random)),
+        rename(&any_name(random), &any_name(random)),
+        write(any_number(random), any_number(random), &bytes),
+        write(random.below(8), random.below(1_500), &bytes),
+        set_size(any_number(random), any_number(random)),
+        set_size(random.below(8), random.below(1_500)),
+        clean(any_number(random)),
+        clean(random.below(4)),
+        Call::Recover,
+    ]
+}
+
+/// What came of a volume: refused, open, or accepted with the journal closed.
+#[derive(Default, Debug)]
+struct Counts {
+    no_volume: u64,
+    damaged: u64,
+    open: u64,
+    closed: u64,
+    filled: u64,
+}
+
+/// Makes every call on a volume, whatever it holds, and checks what must hold of the answers.
+fn make_every_call(random: &mut Random, volume: &[u8], counts: &mut Counts) {
+    let refusal = match judge(volume) {
+        Err(refusal) => Some(refusal),
+        Ok(judged) if judged.journal.is_open() => Some(Refusal::JournalOpen),
+        Ok(_) => None,
+    };
+    match refusal {
+        Some(Refusal::NoVolume) => counts.no_volume += 1,
+        Some(Refusal::Damaged) => counts.damaged += 1,
+        Some(_) => counts.open += 1,
+        None => counts.closed += 1,
+    }
+    for call in any_calls(random) {
+        counts.filled += u64::from(changing_call(random, volume, refusal, &call));
+    }
+    reading_calls(random, volume, refusal);
+    direct_calls(random, volume);
+}
+
+/// Makes one changing call; answers whether it filled words.
+fn changing_call(
+    random: &mut Random,
+    volume: &[u8],
+    refusal: Option<Refusal>,
+    call: &Call,
+) -> bool {
+    let mut short = marked_list(random.below(4_096));
+    let marked = short.clone();
+    let answer = call.fill(volume, &mut short);
+    assert_eq!(answer, Err(Refusal::ShortMemory));
+    assert_eq!(short, marked);
+
+    let result = filled(volume, call);
+    let recovery = *call == Call::Recover && refusal == Some(Refusal::JournalOpen);
+    if let (Some(refusal), false) = (refusal, recovery) {
+        assert_eq!(result, Err(refusal));
+        return false;
+    }
+    let before = map_of(volume);
+    let inodes = word(volume, 1);
+    let list = match result {
+        Err(refusal) => {
+            let expected = refused_by_map(&before, inodes, call).unwrap_or(Refusal::NoSpace);
+            assert_eq!(refusal, expected);
+            return false;
+        }
+        Ok(list) => list,
+    };
+    let after = map_after(&before, inodes, call);
+    let mut landed = volume.to_vec();
+    land(&mut landed, &list);
+    assert_eq!(map_of(&landed), after);
+    assert!(!judge(&landed).unwrap().journal.is_open());
+    let mut broken = volume.to_vec();
+    let group = random.below(groups(&list).len() as u64) as usize;
+    cut(&mut broken, &list, group, |_| random.once_in(2));
+    let map = map_of(&broken);
+    assert!(map == before || map == after);
+    !list.is_empty()
+}
+
+fn reading_calls(random: &mut Random, volume: &[u8], refusal: Option<Refusal>) {
+    let length = random.below(700);
+    let marked = random.bytes(length as usize);
+    let check = |answer: Answer, buffer: &[u8]| {
+        assert!(refusal.is_none() || answer.is_err());
+        if let (Err(actual), Some(refusal)) = (answer, refusal) {
+            assert!(actual == refusal || actual == Refusal::ShortMemory);
+        }
+        if answer.is_err() {
+            assert_eq!(buffer, marked);
+        }
+    };
+    check(find(volume, &any_name(random)), &marked);
+    check(size(volume, any_number(random)), &marked);
+    check(free_count(volume), &marked);
+    for inode in [any_number(random), random.below(5)] {
+        let mut buffer = marked.clone();
+        let answer = read(volume, inode, any_number(random), &mut buffer);
+        check(answer, &buffer);
+        if let Ok(count) = answer {
+            assert_eq!(buffer[count as usize..], marked[count as usize..]);
+        }
+    }
+    for k in [any_number(random), random.below(3)] {
+        let mut buffer = marked.clone();
+        let answer = kth_name(volume, k, &mut buffer);
+        check(answer, &buffer);
+        assert_eq!(buffer.get(32..), marked.get(32..));
+    }
+    let lines = listing(volume);
+    assert_eq!(lines.starts_with(b"refused"), refusal.is_some());
+    assert!(lines.ends_with(b"\n"));
+}
+
+/// Format and carry out, on copies of the volume.
+fn direct_calls(random: &mut Random, volume: &[u8]) {
+    let mut copy = volume.to_vec();
+    if format(&mut copy, any_number(random), any_number(random)).is_err() {
+        assert_eq!(copy, volume);
+    }
+    let mut list: Vec<u64> = (0..random.below(8)).map(|_| any_number(random)).collect();
+    if random.once_in(2) {
+        list.extend([FENCE, 0]);
+    }
+    let count = match random.below(3) {
+        0 => any_number(random),
+        _ => list.len() as u64,
+    };
+    let mut copy = volume.to_vec();
+    match carry_out(&mut copy, &list, count) {
+        Ok(()) => {
+            let mut landed = volume.to_vec();
+            land(&mut landed, &list[..count as usize]);
+            assert_eq!(copy, landed);
+        }
+        Err(refusal) => {
+            assert!(matches!(refusal, Refusal::NoVolume | Refusal::BadList));
+            assert_eq!(copy, volume);
+        }
+    }
+}
+
+#[test]
+fn random_bytes_of_any_length() {
+    let mut random = Random::new(1);
+    let mut counts = Counts::default();
+    for length in (0..40).chain([511, 512, 513, 8_191, 8_192, 8_193, 10_240, 70_000]) {
+        let volume = random.bytes(length);
+        make_every_call(&mut random, &volume, &mut counts);
+    }
+    assert_eq!(counts.no_volume, 48, "{counts:?}");
+}
+
+#[test]
+fn random_bytes_with_sizes() {
+    let mut random = Random::new(2);
+    let mut counts = Counts::default();
+    for _ in 0..60 {
+        let inodes = 8 * random.between(1, 4);
+        let pages = random.between(16, 24);
+        let mut volume = random.bytes(pages as usize * 512);
+        for (index, value) in [(0, pages), (1, inodes), (2, 1)] {
+            set_word(&mut volume, index, value);
+        }
+        make_every_call(&mut random, &volume, &mut counts);
+        for index in [8, 9] {
+            set_word(&mut volume, index, 3);
+        }
+        for index in 64..64 + 8 * inodes {
+            let value = match random.below(3) {
+                0 => 0,
+                1 => 1,
+                _ => random.below(pages * 512),
+            };
+            set_word(&mut volume, index, value);
+        }
+        set_word(&mut volume, 64, 1);
+        make_every_call(&mut random, &volume, &mut counts);
+    }
+    assert_eq!(counts.no_volume, 0);
+    assert!(counts.damaged > 100, "{counts:?}");
+}
+
+/// An accepted volume that some calls have changed, the last perhaps cut.
+fn used_volume(random: &mut Random) -> Vec<u8> {
+    let mut volume = formatted(random.between(16, 24), 8);
+    for _ in 0..6 {
+        for call in any_calls(random) {
+            let _ = run(&mut volume, &call);
+        }
+    }
+    if random.once_in(4) {
+        let list = match filled(&volume, &create(b"zz")) {
+            Ok(list) => list,
+            Err(_) => return volume,
+        };
+        cut(&mut volume, &list, 2, |_| random.once_in(2));
+    }
+    volume
+}
+
+#[test]
+fn changed_bits() {
+    let mut random = Random::new(3);
+    let mut counts = Counts::default();
+    for _ in 0..20 {
+        let volume = used_volume(&mut random);
+        for _ in 0..12 {
+            let mut changed = volume.clone();
+            for _ in 0..random.between(1, 3) {
+                let limit = if random.once_in(2) { 1_600 } else { 8_192 };
+                let place = random.below(limit) as usize;
+                changed[place] ^= 1 << random.below(8);
+            }
+            make_every_call(&mut random, &changed, &mut counts);
+        }
+    }
+    assert!(counts.closed > 40 && counts.damaged > 20, "{counts:?}");
+    assert!(counts.filled > 100 && counts.open > 5, "{counts:?}");
+}
+
+#[test]
+fn changed_words() {
+    let mut random = Random::new(4);
+    let mut counts = Counts::default();
+    for _ in 0..20 {
+        let volume = used_volume(&mut random);
+        for _ in 0..12 {
+            let mut changed = volume.clone();
+            for _ in 0..random.between(1, 3) {
+                let index = match random.below(3) {
+                    0 => random.between(8, 48),
+                    1 => random.between(64, 127),
+                    _ => random.between(128, 400),
+                };
+                let value = match random.below(2) {
+                    0 => any_number(&mut random),
+                    _ => word(&volume, random.below(400)),
+                };
+                set_word(&mut changed, index, value);
+            }
+            make_every_call(&mut random, &changed, &mut counts);
+        }
+    }
+    assert!(counts.closed > 40 && counts.damaged > 20, "{counts:?}");
+    assert!(counts.filled > 100 && counts.open > 5, "{counts:?}");
+}
+
+/// Every word of a used volume set to numbers that break things, one at a time.
+#[test]
+fn each_word_changed() {
+    let mut random = Random::new(5);
+    let volume = used_volume(&mut random);
+    for index in 0..volume.len() as u64 / 8 {
+        for value in [0, 1, 3, 513, u64::MAX] {
+            let mut changed = volume.clone();
+            set_word(&mut changed, index, value);
+            if let Ok(judged) = judge(&changed) {
+                map(&judged);
+            }
+        }
+    }
+}
+
+/// A volume with random logs in random pages: much of it goes only in the middle of a log.
+fn random_logs(random: &mut Random) -> Vec<u8> {
+    let pages = random.between(20, 40);
+    let mut volume = formatted(pages, 8);
+    volume[1024..].fill(0);
+    let mut unused: Vec<u64> = (2..pages).collect();
+    let mut take = |random: &mut Random, count: usize| -> Vec<u64> {
+        let place = |limit: usize, random: &mut Random| random.below(limit as u64) as usize;
+        (0..count)
+            .map(|_| unused.swap_remove(place(unused.len(), random)))
+            .collect()
+    };
+    let mut names: Vec<[u64; 8]> = Vec::new();
+    for _ in 0..random.below(12) {
+        let name = [97 + random.below(4) as u8];
+        names.push(match random.below(3) {
+            0 => entry_remove(&name),
+            _ => entry_add(random.between(1, 7), &name),
+        });
+    }
+    for inode in 1..=3 {
+        names.push(entry_remove(&[97 + inode as u8]));
+        names.push(entry_add(inode, &[97 + inode as u8]));
+        let mut entries: Vec<[u64; 8]> = Vec::new();
+        for _ in 0..random.below(9) {
+            let count = random.between(1, 5);
+            let data_page = random.between(2, pages - count);
+            let size = random.below(3_000);
+            entries.push(match random.below(3) {
+                0 => entry_size(size),
+                _ => entry_write(random.below(6), data_page, count, size),
+            });
+        }
+        entries.push(entry_size(random.below(2) * random.below(1_200)));
+        if random.once_in(2) {
+            let data_page = take(random, 1)[0];
+            entries.push(entry_write(0, data_page, 1, random.between(512, 2_000)));
+        }
+        let log = take(random, entries.len().div_ceil(7));
+        put_log(&mut volume, inode, &log, &entries);
+    }
+    names.push(entry_remove(b"a"));
+    let log = take(random, names.len().div_ceil(7));
+    put_log(&mut volume, 0, &log, &names);
+    let position = random.below(16);
+    set_word(&mut volume, 8, position);
+    set_word(&mut volume, 9, position);
+    volume
+}
+
+#[test]
+fn random_logs_of_allowed_entries() {
+    let mut random = Random::new(6);
+    let mut counts = Counts::default();
+    for _ in 0..400 {
+        let volume = random_logs(&mut random);
+        make_every_call(&mut random, &volume, &mut counts);
+    }
+    assert!(counts.closed > 60 && counts.damaged > 60, "{counts:?}");
+    assert!(counts.filled > 200, "{counts:?}");
+}
