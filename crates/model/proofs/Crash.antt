@@ -2,3 +2,4 @@
 pub mod Stores
 pub mod Journal
 pub mod Landing
+pub mod Commit

@@ -1,8 +1,10 @@
--- Theorems about the definitions of specs/.
+-- Theorems about the definitions of specs/, from the general to the third demand.
 pub mod Tests
 pub mod Lists
 pub mod Words
 pub mod Power
 pub mod Log
 pub mod Frame
+pub mod State
 pub mod Crash
+pub mod Calls

@@ -1,9 +1,9 @@
 -- Laws of the journal: what its open entries say, and the view that they make. By induction over the positions.
-use mathlib.Core.Path.{_≡_, refl, _∙_, fun-ext}
+use mathlib.Core.Path.{_≡_, refl, sym, _∙_, fun-ext}
 use Prim.Native.Nat.{ℕ, zero, suc, _+_, _*_, _≤_, _<_}
 use mathlib.Core.Bool.{true, false, cond}
 use mathlib.Core.List.{List, [], _∷_, map}
-use mathlib.Core.Option.{none}
+use mathlib.Core.Option.{none, some}
 use native.Mathlib.Omega.{arith}
 use lib.ListN.{length}
 use lib.Dec.{eqb}
@@ -13,7 +13,7 @@ use Rattle.model.specs.Words.{Mem}
 use Rattle.model.specs.Stores.{Stores, oneWord, both, over}
 use Rattle.model.specs.Journal.{dequeueWord, enqueueWord, nextPosition, distance, targetWord, oldWord, positions, openCount, openPositions, openTargets, isOpen, putBack, view, targetOk, journalOk}
 use Rattle.model.specs.Calls.{Change, journalPairs, targets}
-use Rattle.model.proofs.Tests.{by-bool, by-lt, cond-neither, not-true-false, ands}
+use Rattle.model.proofs.Tests.{by-bool, by-lt, cond-neither, not-true-false, not-some, ands}
 use Rattle.model.proofs.Lists.{has-head, has-tail, all-has}
 use Rattle.model.proofs.Crash.Stores.{over-none, one-here, one-other, first-none, Each, only-none, only-word, only-both, only-not}
 
@@ -237,3 +237,6 @@ targets-outside [] w h = refl
 targets-outside (c ∷ cs) w h =
     let z = cond-neither (eqb w (c .0)) (has w (targetsOf cs)) h in
     rw (one-other (c .0) (c .1) w (eqb-false w (c .0) (z .0))) (targets-outside cs w (z .1))
+
+pub targets-in : (cs : List Change) (w x : ℕ) → targets cs w ≡ some x → has w (targetsOf cs) ≡ true
+targets-in cs w x e = by-bool (has w (targetsOf cs)) (λ h. h) (λ h. not-some x (sym (targets-outside cs w h) ∙ e))

@@ -1,5 +1,5 @@
 -- Laws of stores: a memory after a group, a part of a group, and what can be said of the words that a group stores. By a look at each word.
-use mathlib.Core.Path.{_≡_, refl, fun-ext}
+use mathlib.Core.Path.{_≡_, refl, sym, _∙_, fun-ext}
 use mathlib.Core.Logic.{_⊎_, inl, inr, ⊎-elim}
 use Prim.Native.Nat.{ℕ, _+_, _-_, _≤_, _<_}
 use mathlib.Core.Bool.{Bool, true, cond, _&&_}
@@ -10,7 +10,7 @@ use borrow.Author.Tests.{ltb-true, leb-true, eqb-true, eq-eqb, ne-eqb}
 use Rattle.model.specs.Lists.{orElse}
 use Rattle.model.specs.Words.{Mem}
 use Rattle.model.specs.Stores.{Stores, nothing, oneWord, run, firstOf, both, onlyIf, over}
-use Rattle.model.proofs.Tests.{by-bool, not-some, cond-some, ands}
+use Rattle.model.proofs.Tests.{by-bool, by-eq, not-some, cond-some, ands}
 
 -- A memory after a group.
 
@@ -71,6 +71,17 @@ pub part-none : (s : Stores) (kept : ℕ → Bool) (w : ℕ) → s w ≡ none �
 unfolding part
 part-none s kept w e = by-bool (kept w) (λ h. rw h e) (λ h. rw h)
 
+-- one word lands or not
+pub part-one : (t x : ℕ) (kept : ℕ → Bool) (m : Mem)
+    → (over (part (oneWord t x) kept) m ≡ m) ⊎ (over (part (oneWord t x) kept) m ≡ over (oneWord t x) m)
+unfolding part
+part-one t x kept m =
+    by-bool (kept t) (λ h. inr (fun-ext (λ w. by-eq w t (λ e. rw e (over-some _ m t x (rw h (one-here t x)) ∙ sym (over-here t x m))) (λ e. rest w e ∙ sym (over-other t x m w e)))))
+    (λ h. inl (fun-ext (λ w. by-eq w t (λ e. rw e (over-none _ m t (rw h))) (rest w))))
+  where
+    rest : (w : ℕ) → (w ≡ t → ⊥) → over (part (oneWord t x) kept) m w ≡ m w
+    rest w e = over-none (part (oneWord t x) kept) m w (part-none (oneWord t x) kept w (one-other t x w e))
+
 -- What a group stores: R holds of each word that is stored and its value.
 abbrev pub Each : (ℕ → ℕ → Type 0) → Stores → Type 0
 Each R s = (w x : ℕ) → s w ≡ some x → R w x
@@ -124,3 +135,11 @@ module _ {R : ℕ → ℕ → Type 0} where
       go : (o : Option ℕ) → s w ≡ o → s w ≡ none
       go none e = e
       go (some x) e = absurd (n x (f w x e))
+
+-- each word stays or is one of which Q holds
+pub only-cases : {Q : ℕ → Type 0} {s : Stores} → Only Q s → (m : Mem) (w : ℕ) → (over s m w ≡ m w) ⊎ Q w
+only-cases {Q = Q} {s = s} f m w = go (s w) refl
+  where
+    go : (o : Option ℕ) → s w ≡ o → (over s m w ≡ m w) ⊎ Q w
+    go none e = inl (over-none s m w e)
+    go (some x) e = inr (f w x e)

@@ -1,0 +1,131 @@
+-- A call changes one inode k: the others read as before, or are let go, or are new and empty. So the uses of a page grow by what the call takes,
+-- and no page serves twice.
+use mathlib.Core.Path.{_≡_, refl, sym, _∙_}
+use mathlib.Core.Logic.{_⊎_, inl, inr, ⊎-elim}
+use Prim.Native.Nat.{ℕ, zero, suc, _+_, _*_, _/_, _≤_, _<_}
+use mathlib.Core.Bool.{Bool, true, false, cond, not}
+use mathlib.Core.List.{List, [], _∷_, _++_}
+use native.Mathlib.Omega.{arith}
+use native.Mathlib.Nat.{le-of-eq}
+use lib.Dec.{leb, eqb}
+use borrow.Author.Tests.{eqb-true, eq-eqb, ne-eqb}
+use Rattle.model.specs.Lists.{bit, allBelow, sumBelow, all, count, foldl}
+use Rattle.model.specs.Words.{Mem}
+use Rattle.model.specs.Layout.{validWord, tailWord, root, isDirectory}
+use Rattle.model.specs.Entry.{Entry, fileEntryOk, nameEntryOk}
+use Rattle.model.specs.Log.{logPages, pages, entries}
+use Rattle.model.specs.State.{File, emptyFile, fileOf, bytesOf, namesOf}
+use Rattle.model.specs.Accept.{isValid, isFile, mappedTo, usesBy, uses, free, validOk, logOk, namesOk, endOk, inodeOk, viewOk}
+use Rattle.model.proofs.Tests.{by-bool, by-eq, ands}
+use Rattle.model.proofs.Lists.{sumBelow-le}
+use Rattle.model.proofs.Log.Pages.{Reads}
+use Rattle.model.proofs.Log.Extend.{empty-log}
+use Rattle.model.proofs.Frame.Inode.{Agree, same-usesBy, same-inodeOk}
+use Rattle.model.proofs.Frame.View.{fine-inode, view-fine, fine-view, file-is, inode-ok, log-ok}
+use Rattle.model.proofs.Calls.Room.{free-in, Lone}
+
+-- a sum of which only the summand at k grows, by e
+sum-grow : (n k : ℕ) (f g : ℕ → ℕ) (e : ℕ) → ((i : ℕ) → i < n → (i ≡ k → ⊥) → g i ≤ f i) → g k ≤ f k + e → sumBelow n g ≤ sumBelow n f + e
+unfolding sumBelow
+sum-grow zero k f g e h o = omega arith
+sum-grow (suc n) k f g e h o =
+    by-eq n k
+    (λ q. let r = sumBelow-le n g f (λ i l. h i (omega arith) (omega arith)) in let t : g n ≤ f n + e = rw q o in omega arith)
+    (λ q. let r = sum-grow n k f g e (λ i l. h i (omega arith)) o in let t = h n (omega arith) q in omega arith)
+
+-- An inode whose tail is 0: it has no pages, and its file is empty.
+module _ (u : Mem) (P N i : ℕ) (t : u (tailWord i) ≡ 0) where
+  new-pages : pages u P N i ≡ []
+  unfolding pages
+  new-pages = rw (empty-log u P N i t .0)
+
+  pub new-file : fileOf u P N i ≡ emptyFile
+  unfolding fileOf foldl
+  new-file = rw (empty-log u P N i t .1)
+
+  new-log-ok : logOk u P N i ≡ true
+  unfolding logOk all
+  new-log-ok = rw (empty-log u P N i t .0, empty-log u P N i t .1) (by-bool (isDirectory i) (λ e. rw e) (λ e. rw e))
+
+empty-mapped : (p : ℕ) → (p ≡ 0 → ⊥) → mappedTo emptyFile p ≡ 0
+unfolding mappedTo emptyFile bit sumBelow
+empty-mapped p n = simp (ne-eqb 0 p (λ e. n (sym e)))
+
+empty-end : (u : Mem) → endOk u emptyFile ≡ true
+unfolding endOk emptyFile allBelow
+empty-end u = refl
+
+-- An inode beside the changed one: valid and kept word for word, not valid before and after, let go, or new and empty.
+pub data After (m u : Mem) (P N i : ℕ) : Type 0 where
+  kept : isValid m i ≡ true → Agree m u P N i → After m u P N i
+  idle : isValid m i ≡ false → u (validWord i) ≡ m (validWord i) → After m u P N i
+  gone : (i ≡ 0 → ⊥) → u (validWord i) ≡ 0 → After m u P N i
+  made : (i ≡ 0 → ⊥) → u (validWord i) ≡ 1 → u (tailWord i) ≡ 0 → After m u P N i
+
+module _ (m u : Mem) (P N : ℕ) (ok : viewOk m P N ≡ true) (i : ℕ) (l : i < N) where
+  -- such an inode uses no page more than before
+  uses-after : (p : ℕ) → (p ≡ 0 → ⊥) → After m u P N i → usesBy u P N p i ≤ usesBy m P N p i
+  unfolding usesBy count
+  uses-after p n (kept v a) = le-of-eq (same-usesBy m u P N i (log-ok m P N ok i l v) a p)
+  uses-after p n (idle v e) = rw (e, v) (omega arith)
+  uses-after p n (gone c e) = rw e (omega arith)
+  uses-after p n (made c e t) =
+      rw (e, new-pages u P N i t, new-file u P N i t, empty-mapped p n) (by-bool (eqb i 0) (λ b. rw b (omega arith)) (λ b. rw b (omega arith)))
+
+  -- such an inode is as it should be
+  inode-after : After m u P N i → inodeOk u P N i ≡ true
+  unfolding inodeOk validOk
+  inode-after (kept v a) = same-inodeOk m u P N i (log-ok m P N ok i l v) a ∙ inode-ok m P N ok i l
+  inode-after (idle v e) = rw (e, v) (rw v at (inode-ok m P N ok i l))
+  inode-after (gone n e) = rw (e, ne-eqb i 0 n)
+  inode-after (made n e t) = rw (e, ne-eqb i 0 n, new-log-ok u P N i t, new-file u P N i t, empty-end u)
+
+-- u comes from m by a call that changes inode k: its log then has the pages ps and the entries xs; ls are the fresh log pages, and e p is how
+-- often page p is a fresh data page
+pub record Changed (m u : Mem) (P N k : ℕ) (ls ps : List ℕ) (xs : List Entry) (e : ℕ → ℕ) : Type 0 where
+  pub was-fine : viewOk m P N ≡ true
+  pub was-valid : isValid m k ≡ true
+  pub is-valid : isValid u k ≡ true
+  pub reads : Reads u P N k ps xs
+  pub longer : (p : ℕ) → count p ps ≤ count p (pages m P N k) + count p ls
+  pub lone : Lone m P N (λ p. count p ls + e p)
+  pub fits : cond (isDirectory k) (all (nameEntryOk N) xs) (all (fileEntryOk P N) xs) ≡ true
+  pub maps : (k ≡ 0 → ⊥) → (p : ℕ) → (p ≡ 0 → ⊥) → mappedTo (fileOf u P N k) p ≤ mappedTo (fileOf m P N k) p + e p
+  pub ends : (k ≡ 0 → ⊥) → endOk u (fileOf u P N k) ≡ true
+  pub others : (i : ℕ) → i < N → (i ≡ k → ⊥) → After m u P N i
+  pub names : namesOk u N (namesOf u P N root) ≡ true
+
+module _ {m u : Mem} {P N k : ℕ} {ls ps : List ℕ} {xs : List Entry} {e : ℕ → ℕ} (c : Changed m u P N k ls ps xs e) where
+  -- what the changed inode uses
+  own-uses : (p : ℕ) → (p ≡ 0 → ⊥) → usesBy u P N p k ≤ usesBy m P N p k + (count p ls + e p)
+  unfolding usesBy pages
+  own-uses p n =
+      let h = c .longer p in
+      rw (c .was-valid, c .is-valid, c .reads .0)
+      (by-eq k 0 (λ q. rw (eq-eqb k 0 q) (omega arith)) (λ q. let g = c .maps q p n in rw (ne-eqb k 0 q) (omega arith)))
+
+  -- no page serves twice
+  once-after : (p : ℕ) → p < P → (p ≡ 0 → ⊥) → uses u P N p ≤ 1
+  unfolding uses
+  once-after p l n =
+      let was = view-fine m P N (c .was-fine) in
+      let g = sum-grow N k (usesBy m P N p) (usesBy u P N p) (count p ls + e p) (λ i b q. uses-after m u P N (c .was-fine) i b p n (c .others i b q)) (own-uses p n) in
+      ⊎-elim (λ z. let a = was .once p l n in omega arith) (λ z. let a = free-in m P N p (z .0) .1 in let b = z .1 in omega arith) (c .lone p)
+
+  -- the changed inode is as it should be
+  own-ok : inodeOk u P N k ≡ true
+  unfolding validOk logOk
+  own-ok = fine-inode u P N k (record {
+    valid-word = by-bool (isDirectory k) (λ d. rw d (c .is-valid)) (λ d. rw (d, eqb-true (u (validWord k)) 1 (c .is-valid)));
+    log = λ v. rw (c .reads .0, c .reads .1) (c .fits);
+    end = λ f. c .ends (file-is u k f .0);
+  })
+
+  -- the view after the call
+  pub changed-fine : viewOk u P N ≡ true
+  changed-fine =
+      fine-view u P N (record {
+        inodes = λ i l. by-eq i k (λ q. rw q own-ok) (λ q. inode-after m u P N (c .was-fine) i l (c .others i l q));
+        names = c .names;
+        once = once-after;
+      })

@@ -1,0 +1,81 @@
+-- What a call stores before its commit: words that no reading looks at, outside page 0. Free pages, the words past a tail, the head of an
+-- empty log, and head and tail of an invalid inode are such words.
+use mathlib.Core.Path.{_≡_, refl, sym, _∙_}
+use mathlib.Core.Logic.{_⊎_, inl, inr, ⊎-elim}
+use Prim.Native.Nat.{ℕ, _+_, _-_, _*_, _/_, _%_, _≤_, _<_}
+use mathlib.Core.Bool.{Bool, true, false}
+use mathlib.Core.List.{List, [], _∷_, _++_}
+use native.Mathlib.Omega.{arith}
+use lib.ListN.{getD}
+use lib.Dec.{eqb}
+use borrow.Author.Tests.{eqb-true, eq-eqb, ne-eqb}
+use Rattle.model.specs.Lists.{has}
+use Rattle.model.specs.Words.{Mem}
+use Rattle.model.specs.Layout.{headWord, tailWord}
+use Rattle.model.specs.Log.{tailSlots}
+use Rattle.model.specs.Accept.{isValid, free, viewOk}
+use Rattle.model.specs.Stores.{Stores, oneWord, run, both, onlyIf}
+use Rattle.model.specs.Calls.{Append, layEntries, tailPages, dataStart, appended, freshPages, freshLog, prepared}
+use Rattle.model.proofs.Tests.{by-eq}
+use Rattle.model.proofs.Lists.{has-cons}
+use Rattle.model.proofs.Log.Extend.{tail-slots}
+use Rattle.model.proofs.Log.Live.{lay-in, lay-first}
+use Rattle.model.proofs.Frame.Placed.{in-bounds}
+use Rattle.model.proofs.Frame.Inode.{full, page-in, tail-page}
+use Rattle.model.proofs.Frame.View.{log-ok}
+use Rattle.model.proofs.Frame.Dead.{Dead, low, inFree, pastTail, head, tail}
+use Rattle.model.proofs.Crash.Stores.{Only, only-both, only-if, only-word, only-run}
+use Rattle.model.proofs.Calls.Room.{free-bounds, Room, run-page}
+
+-- a word that no reading of u looks at, outside page 0
+abbrev pub Still : Mem → ℕ → ℕ → ℕ → Type 0
+Still u P N w = Dead u P N w × (64 ≤ w)
+
+module _ (u : Mem) (P N : ℕ) where
+  still-free : (w : ℕ) → free u P N (w / 64) ≡ true → Still u P N w
+  still-free w e = let b = free-bounds u P N (w / 64) e in (inFree e, omega arith)
+
+  -- entries laid on free pages
+  pub still-lay : (ls : List ℕ) (i : ℕ) (es : List (List ℕ)) → ((x : ℕ) → has x ls ≡ true → free u P N x ≡ true)
+      → Only (Still u P N) (layEntries ls i es)
+  still-lay ls i es f w x e = still-free w (f (w / 64) (lay-in ls i es w x e))
+
+  -- a run of free pages
+  still-run : (d c : ℕ) (f : ℕ → ℕ) (ls : List ℕ) (n : ℕ) → Room u P N d c ls n → Only (Still u P N) (run (64 * d) (64 * c) f)
+  still-run d c f ls n r =
+      only-run (λ w x. Still u P N w) (64 * d) (64 * c) f
+      (λ j l. still-free (64 * d + j) (run-page u P N d c ls n r ((64 * d + j) / 64) (omega arith) (omega arith)))
+
+  -- head and tail of an invalid inode
+  pub still-inode : (i x y : ℕ) → i < N → isValid u i ≡ false → Only (Still u P N) (both (oneWord (headWord i) x) (oneWord (tailWord i) y))
+  still-inode i x y l v =
+      only-both
+      (only-word (λ w x. Still u P N w) (headWord i) x (head i l refl (inl v), omega arith))
+      (only-word (λ w x. Still u P N w) (tailWord i) y (tail i l refl v, omega arith))
+
+  module _ (ok : viewOk u P N ≡ true) (k : ℕ) (l : k < N) (v : isValid u k ≡ true) where
+    -- entries laid behind a log
+    still-behind : (ls : List ℕ) (es : List (List ℕ)) → ((x : ℕ) → has x ls ≡ true → free u P N x ≡ true)
+        → Only (Still u P N) (layEntries (tailPages u k ++ ls) (tailSlots u k) es)
+    unfolding tailPages
+    still-behind ls es f w x e =
+        by-eq (u (tailWord k)) 0
+        (λ t. still-lay ls (tailSlots u k) es f w x (rw (eq-eqb _ _ t) at e))
+        (λ t.
+        let o = log-ok u P N ok k l v in
+        let s = tail-slots (u (tailWord k)) (full u P N k o t .3) in
+        let q = u (tailWord k) / 512 in
+        let b = in-bounds P N q (page-in u P N k o q (tail-page u P N k o t)) in
+        let e′ = rw (ne-eqb _ _ t) at e in
+        ⊎-elim (λ c. let g = lay-first q ls (tailSlots u k) es w x (omega arith) e′ c in (pastTail k l v t c (omega arith), omega arith))
+        (λ h. still-free w (f (w / 64) h)) (has-cons (w / 64) q ls (lay-in (q ∷ ls) (tailSlots u k) es w x e′)))
+
+  -- the first group of an append
+  pub still-prepared : viewOk u P N ≡ true → (a : Append) → a .log < N → isValid u (a .log) ≡ true
+      → Room u P N (dataStart u P N a) (a .dataPages) (freshLog u P N a) (freshPages u P N a) → Only (Still u P N) (prepared u P N a)
+  unfolding prepared
+  still-prepared ok a l v r =
+      only-both (still-run (dataStart u P N a) (a .dataPages) (a .words) (freshLog u P N a) (freshPages u P N a) r)
+      (only-both (still-behind ok (a .log) l v (freshLog u P N a) (appended u P N a) (r .fresh .unused))
+      (only-if (eqb (u (tailWord (a .log))) 0)
+      (λ t. only-word (λ w x. Still u P N w) (headWord (a .log)) (getD (freshLog u P N a) 0 0) (head (a .log) l refl (inr (eqb-true _ _ t)), omega arith))))

@@ -1,0 +1,12 @@
+-- What a log's entries come to: the bytes of files, lists of names, and the file map.
+pub mod Bytes
+pub mod Append
+pub mod Write
+pub mod Resize
+pub mod Mapped
+pub mod Clean
+pub mod Names
+pub mod NamesFine
+pub mod NamesAfter
+pub mod NameEntries
+pub mod Maps
