@@ -3,3 +3,5 @@ pub mod Room
 pub mod Still
 pub mod Changed
 pub mod Stored
+pub mod Small
+pub mod Grown

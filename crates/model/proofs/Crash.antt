@@ -3,3 +3,4 @@ pub mod Stores
 pub mod Journal
 pub mod Landing
 pub mod Commit
+pub mod History

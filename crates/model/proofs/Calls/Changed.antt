@@ -12,13 +12,11 @@ use borrow.Author.Tests.{eqb-true, eq-eqb, ne-eqb}
 use Rattle.model.specs.Lists.{bit, allBelow, sumBelow, all, count, foldl}
 use Rattle.model.specs.Words.{Mem}
 use Rattle.model.specs.Layout.{validWord, tailWord, root, isDirectory}
-use Rattle.model.specs.Entry.{Entry, fileEntryOk, nameEntryOk}
 use Rattle.model.specs.Log.{logPages, pages, entries}
 use Rattle.model.specs.State.{File, emptyFile, fileOf, bytesOf, namesOf}
 use Rattle.model.specs.Accept.{isValid, isFile, mappedTo, usesBy, uses, free, validOk, logOk, namesOk, endOk, inodeOk, viewOk}
 use Rattle.model.proofs.Tests.{by-bool, by-eq, ands}
 use Rattle.model.proofs.Lists.{sumBelow-le}
-use Rattle.model.proofs.Log.Pages.{Reads}
 use Rattle.model.proofs.Log.Extend.{empty-log}
 use Rattle.model.proofs.Frame.Inode.{Agree, same-usesBy, same-inodeOk}
 use Rattle.model.proofs.Frame.View.{fine-inode, view-fine, fine-view, file-is, inode-ok, log-ok}
@@ -80,28 +78,26 @@ module _ (m u : Mem) (P N : ℕ) (ok : viewOk m P N ≡ true) (i : ℕ) (l : i <
   inode-after (gone n e) = rw (e, ne-eqb i 0 n)
   inode-after (made n e t) = rw (e, ne-eqb i 0 n, new-log-ok u P N i t, new-file u P N i t, empty-end u)
 
--- u comes from m by a call that changes inode k: its log then has the pages ps and the entries xs; ls are the fresh log pages, and e p is how
--- often page p is a fresh data page
-pub record Changed (m u : Mem) (P N k : ℕ) (ls ps : List ℕ) (xs : List Entry) (e : ℕ → ℕ) : Type 0 where
+-- u comes from m by a call that changes inode k: ls are the fresh pages of its log, and e p is how often page p is a fresh data page
+pub record Changed (m u : Mem) (P N k : ℕ) (ls : List ℕ) (e : ℕ → ℕ) : Type 0 where
   pub was-fine : viewOk m P N ≡ true
   pub was-valid : isValid m k ≡ true
   pub is-valid : isValid u k ≡ true
-  pub reads : Reads u P N k ps xs
-  pub longer : (p : ℕ) → count p ps ≤ count p (pages m P N k) + count p ls
+  pub log-fine : logOk u P N k ≡ true
+  pub longer : (p : ℕ) → count p (pages u P N k) ≤ count p (pages m P N k) + count p ls
   pub lone : Lone m P N (λ p. count p ls + e p)
-  pub fits : cond (isDirectory k) (all (nameEntryOk N) xs) (all (fileEntryOk P N) xs) ≡ true
   pub maps : (k ≡ 0 → ⊥) → (p : ℕ) → (p ≡ 0 → ⊥) → mappedTo (fileOf u P N k) p ≤ mappedTo (fileOf m P N k) p + e p
   pub ends : (k ≡ 0 → ⊥) → endOk u (fileOf u P N k) ≡ true
   pub others : (i : ℕ) → i < N → (i ≡ k → ⊥) → After m u P N i
   pub names : namesOk u N (namesOf u P N root) ≡ true
 
-module _ {m u : Mem} {P N k : ℕ} {ls ps : List ℕ} {xs : List Entry} {e : ℕ → ℕ} (c : Changed m u P N k ls ps xs e) where
+module _ {m u : Mem} {P N k : ℕ} {ls : List ℕ} {e : ℕ → ℕ} (c : Changed m u P N k ls e) where
   -- what the changed inode uses
   own-uses : (p : ℕ) → (p ≡ 0 → ⊥) → usesBy u P N p k ≤ usesBy m P N p k + (count p ls + e p)
-  unfolding usesBy pages
+  unfolding usesBy
   own-uses p n =
       let h = c .longer p in
-      rw (c .was-valid, c .is-valid, c .reads .0)
+      rw (c .was-valid, c .is-valid)
       (by-eq k 0 (λ q. rw (eq-eqb k 0 q) (omega arith)) (λ q. let g = c .maps q p n in rw (ne-eqb k 0 q) (omega arith)))
 
   -- no page serves twice
@@ -114,12 +110,13 @@ module _ {m u : Mem} {P N k : ℕ} {ls ps : List ℕ} {xs : List Entry} {e : ℕ
 
   -- the changed inode is as it should be
   own-ok : inodeOk u P N k ≡ true
-  unfolding validOk logOk
-  own-ok = fine-inode u P N k (record {
-    valid-word = by-bool (isDirectory k) (λ d. rw d (c .is-valid)) (λ d. rw (d, eqb-true (u (validWord k)) 1 (c .is-valid)));
-    log = λ v. rw (c .reads .0, c .reads .1) (c .fits);
-    end = λ f. c .ends (file-is u k f .0);
-  })
+  unfolding validOk
+  own-ok =
+      fine-inode u P N k (record {
+        valid-word = by-bool (isDirectory k) (λ d. rw d (c .is-valid)) (λ d. rw (d, eqb-true (u (validWord k)) 1 (c .is-valid)));
+        log = λ v. c .log-fine;
+        end = λ f. c .ends (file-is u k f .0);
+      })
 
   -- the view after the call
   pub changed-fine : viewOk u P N ≡ true

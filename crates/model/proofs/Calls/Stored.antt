@@ -30,7 +30,7 @@ use Rattle.model.proofs.Frame.Placed.{sizes-whole, in-bounds, SamePages
 use Rattle.model.proofs.Frame.Inode.{Agree, log-is, page-in, tail-page, mapped-in, same-bytes}
 use Rattle.model.proofs.Frame.View.{log-ok}
 use Rattle.model.proofs.Frame.Dead.{Dead, serves, same-valid, agrees}
-use Rattle.model.proofs.Crash.Stores.{Only, only-cases, over-none, over-some, one-here, first-none}
+use Rattle.model.proofs.Crash.Stores.{Only, only-cases, over-none, over-some, one-here, one-other}
 use Rattle.model.proofs.Crash.Journal.{targetsOf, targets-outside, target-high}
 use Rattle.model.proofs.Crash.Commit.{committed}
 use Rattle.model.proofs.Calls.Room.{Fresh, Room, free-in, free-bounds, room-bounds, run-page}
@@ -179,6 +179,18 @@ module _ {m : Mem} {P N : ℕ} {a : Append} {s : Stores} {cs : List Change} (c :
       let b = in-bounds P N (w / 64) y in
       let z = sizes-whole P N sizes .0 in
       high-same did w (omega arith) ∙ over-some s m w x (laid-stored w x e)
+
+  -- in page 0 and the inode table nothing is stored but a head
+  pub prepared-low : (w : ℕ) → w < 64 + 8 * N → (w ≡ headWord k → ⊥) → prepared m P N a w ≡ none
+  unfolding prepared both run onlyIf
+  prepared-low w l n =
+      let z = sizes-whole P N sizes .0 in
+      rw (
+        outside (64 * d) (64 * d + 64 * a .dataPages) w
+          (λ p q. let f = free-bounds m P N _ (run-page m P N d (a .dataPages) ls (freshPages m P N a) room (w / 64) (omega arith) (omega arith)) in omega arith),
+        lay-low P N (tailPages m k ++ ls) (tailSlots m k) es z (tail-inside fits) w l,
+        one-other (headWord k) (getD ls 0 0) w n)
+      (by-bool (eqb (m (tailWord k)) 0) (λ t. rw t) (λ t. rw t))
 
   -- an empty log gets its head
   head-stored : m (tailWord k) ≡ 0 → s (headWord k) ≡ some (getD ls 0 0)

@@ -1,5 +1,6 @@
 -- What a power cut leaves of a call's groups: the part of the claim that is the same for all calls.
 -- Up to the one store that commits, the view differs from the one before in dead words alone; from then on it is the view after.
+-- Word 8 is the journal's dequeue position, word 9 its enqueue position.
 use mathlib.Core.Path.{_≡_, refl, sym, _∙_, ap}
 use mathlib.Core.Logic.{_⊎_, inl, inr, ⊎-elim}
 use Prim.Native.Nat.{ℕ, zero, suc, _+_, _*_, _%_, _^_, _≤_, _<_}
@@ -8,21 +9,20 @@ use mathlib.Core.List.{List, [], _∷_}
 use mathlib.Core.Option.{none, some}
 use native.Mathlib.Omega.{arith}
 use lib.ListN.{length}
-use lib.Dec.{eqb}
 use Rattle.model.specs.Lists.{all, has, distinct}
 use Rattle.model.specs.Words.{Mem}
 use Rattle.model.specs.Layout.{sizesOk}
 use Rattle.model.specs.Stores.{Stores, oneWord, both, over, landed}
-use Rattle.model.specs.Journal.{dequeueWord, enqueueWord, targetWord, oldWord, openCount, openPositions, openTargets, isOpen, view, targetOk, journalOk}
+use Rattle.model.specs.Journal.{targetWord, oldWord, openCount, openPositions, openTargets, isOpen, view, targetOk, journalOk}
 use Rattle.model.specs.Accept.{viewOk, accepted}
 use Rattle.model.specs.FileMap.{FileMap, mapOf}
-use Rattle.model.specs.Power.{Power, held, cut}
+use Rattle.model.specs.Power.{cut}
 use Rattle.model.specs.Calls.{Change, journalPairs, targets, commitOne, commitTogether, commit, oldValues, recoverGroups}
-use Rattle.model.proofs.Tests.{by-bool, by-eq, by-lt, not-true-false, cond-some, ands}
-use Rattle.model.proofs.Lists.{all-cons, all-has}
-use Rattle.model.proofs.Crash.Stores.{over-none, over-some, over-same, over-here, over-other, both-none, over-both, part, part-none, part-one, Each, Only, only-word, only-both, only-part, only-imp, only-not, only-cases}
-use Rattle.model.proofs.Crash.Journal.{closed-view, count-closed, JournalOk, journal-parts, journal-ok, closed-ok, closed-same, equal-closed, view-words, view-other, target-high, low-no-target, undone-low, undone-journal, undone-view, targetsOf, Logged, logged-same, logged-targets, logged-back, logged-pairs, pairs-each, pairs-outside, targets-one, targets-outside, targets-in}
-use Rattle.model.proofs.Crash.Landing.{Fit, Fits, left, Sizes, sizes-parts}
+use Rattle.model.proofs.Tests.{by-bool, by-eq, by-lt, cond-some, ands}
+use Rattle.model.proofs.Lists.{all-has}
+use Rattle.model.proofs.Crash.Stores.{over-none, over-some, over-same, over-here, over-other, over-both, part, part-none, part-one, Each, Only, only-word, only-both, only-part, only-imp, only-not, only-cases}
+use Rattle.model.proofs.Crash.Journal.{closed-view, JournalOk, journal-parts, journal-ok, closed-ok, closed-same, equal-closed, view-words, view-other, target-high, low-no-target, undone-low, undone-journal, undone-view, targetsOf, Logged, logged-same, logged-targets, logged-back, logged-pairs, pairs-each, pairs-outside, Values, targets-small, targets-one, targets-outside, targets-in}
+use Rattle.model.proofs.Crash.Landing.{Fit, Fits, left, sizes-parts}
 
 -- Accepted, in parts.
 
@@ -101,7 +101,7 @@ pub record Owed (P N : ℕ) (Dead : Mem → ℕ → Type 0) (m : Mem) (s : Store
   pub few : length cs ≤ 4
   pub in-table : all (targetOk N) (targetsOf cs) ≡ true
   pub apart : distinct (targetsOf cs) ≡ true
-  pub new-words : Each (λ w x. x < 2 ^ 64) (targets cs)
+  pub values : Values cs
   pub fine : viewOk (committed m s cs) P N ≡ true
   pub new : mapOf (committed m s cs) P N ≡ M
 
@@ -148,7 +148,7 @@ module _ (P N : ℕ) (Dead : Mem → ℕ → Type 0)
           (λ w. rw (closed-view (over s m) calm-closed, closed-view m (r .closed))
           (⊎-elim (λ n. inl n) (λ n. inr (n .0)) (only-cases quiet m w)))
 
-    -- what is owed of the stores s and the changes cs is all that follows from
+    -- what follows at once from what is owed
     module _ (s : Stores) (cs : List Change) (M : FileMap) (o : Owed P N Dead m s cs M) where
       quiet : Only (λ w. Dead m w × (16 ≤ w)) s
       quiet = only-imp (λ w x q. (q .0, omega arith)) (o .harmless)
@@ -162,7 +162,7 @@ module _ (P N : ℕ) (Dead : Mem → ℕ → Type 0)
           let b = sizes-parts P N (r .sizes) in omega arith
 
       fits-targets : Each (Fit (64 * P)) (targets cs)
-      fits-targets w x e = let a = target-fits w (targets-in cs w x e) in (omega arith, a .1, o .new-words w x e)
+      fits-targets w x e = let a = target-fits w (targets-in cs w x e) in (omega arith, a .1, targets-small cs (o .values) w x e)
 
       low-targets : (w : ℕ) → w < 64 → targets cs w ≡ none
       low-targets w h = targets-outside cs w (low-no-target N (targetsOf cs) w (o .in-table) h)
@@ -181,7 +181,10 @@ module _ (P N : ℕ) (Dead : Mem → ℕ → Type 0)
         let k = closed-same m (j .dequeue) (j .enqueue) (r .closed) in
         let z = shows-itself f M (omega arith) (omega arith) (rw targets-one at (o .fine)) (rw targets-one at (o .new)) in
         record {
-          leads = ((λ kept. inl (calm (part s kept) (only-part kept q))), lead-word P N O M (over s m) (c .0) (c .1) [] (inl (calm s q)) (inr z) (still-closed f d e, z));
+          leads = (
+            (λ kept. inl (calm (part s kept) (only-part kept q))),
+            lead-word P N O M (over s m) (c .0) (c .1) [] (inl (calm s q)) (inr z) (still-closed f d e, z),
+          );
           fits = (fits-stores s (c ∷ []) M o, (rw targets-one at (fits-targets s (c ∷ []) M o), tt));
         }
 

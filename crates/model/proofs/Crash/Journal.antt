@@ -1,6 +1,6 @@
 -- Laws of the journal: what its open entries say, and the view that they make. By induction over the positions.
 use mathlib.Core.Path.{_≡_, refl, sym, _∙_, fun-ext}
-use Prim.Native.Nat.{ℕ, zero, suc, _+_, _*_, _≤_, _<_}
+use Prim.Native.Nat.{ℕ, zero, suc, _+_, _*_, _^_, _≤_, _<_}
 use mathlib.Core.Bool.{true, false, cond}
 use mathlib.Core.List.{List, [], _∷_, map}
 use mathlib.Core.Option.{none, some}
@@ -223,9 +223,15 @@ pairs-outside m i cs w h o =
 
 -- The targets' own stores.
 
-pub targets-cons : (c : Change) (cs : List Change) → targets (c ∷ cs) ≡ both (oneWord (c .0) (c .1)) (targets cs)
+-- the new values are of 64 bits
+abbrev pub Values : List Change → Type 0
+Values [] = Unit {0}
+Values (c ∷ cs) = (c .1 < 2 ^ 64) × Values cs
+
+pub targets-small : (cs : List Change) → Values cs → Each (λ w x. x < 2 ^ 64) (targets cs)
 unfolding targets both
-targets-cons c cs = refl
+targets-small [] v = only-none (λ w x. x < 2 ^ 64)
+targets-small (c ∷ cs) v = only-both (only-word (λ w x. x < 2 ^ 64) (c .0) (c .1) (v .0)) (targets-small cs (v .1))
 
 pub targets-one : (c : Change) → targets (c ∷ []) ≡ oneWord (c .0) (c .1)
 unfolding targets

@@ -51,10 +51,6 @@ pub first-cases : (a b : Option ℕ) (x : ℕ) → firstOf a b ≡ some x → (a
 first-cases none b x e = inr e
 first-cases (some y) b x e = inl e
 
-pub both-none : (s t : Stores) (w : ℕ) → s w ≡ none → both s t w ≡ t w
-unfolding both
-both-none s t w e = rw e
-
 pub over-both : (s t : Stores) (m : Mem) → over (both s t) m ≡ over s (over t m)
 unfolding over both
 over-both s t m = fun-ext (λ w. go (s w) (t w) (m w))
@@ -76,7 +72,9 @@ pub part-one : (t x : ℕ) (kept : ℕ → Bool) (m : Mem)
     → (over (part (oneWord t x) kept) m ≡ m) ⊎ (over (part (oneWord t x) kept) m ≡ over (oneWord t x) m)
 unfolding part
 part-one t x kept m =
-    by-bool (kept t) (λ h. inr (fun-ext (λ w. by-eq w t (λ e. rw e (over-some _ m t x (rw h (one-here t x)) ∙ sym (over-here t x m))) (λ e. rest w e ∙ sym (over-other t x m w e)))))
+    by-bool (kept t)
+    (λ h. inr (fun-ext (λ w. by-eq w t (λ e. rw e (over-some _ m t x (rw h (one-here t x)) ∙ sym (over-here t x m)))
+    (λ e. rest w e ∙ sym (over-other t x m w e)))))
     (λ h. inl (fun-ext (λ w. by-eq w t (λ e. rw e (over-none _ m t (rw h))) (rest w))))
   where
     rest : (w : ℕ) → (w ≡ t → ⊥) → over (part (oneWord t x) kept) m w ≡ m w

@@ -1,0 +1,169 @@
+-- From one call to a whole history: where each call's groups are sound, every event leaves an accepted volume with the map that is demanded.
+-- By induction over the events; what is kept from one to the next is that the volume is accepted, its journal open or closed, and made of bytes.
+use mathlib.Core.Path.{_≡_, refl, _∙_, ap}
+use mathlib.Core.Logic.{_⊎_, ⊎-elim, ⊎-map}
+use Prim.Native.Nat.{ℕ, _*_, _^_, _≤_, _<_}
+use mathlib.Core.Bool.{true, false, _&&_}
+use mathlib.Core.List.{List, [], _∷_}
+use native.Mathlib.Omega.{arith}
+use lib.ListN.{length}
+use borrow.Author.Tests.{le-ltb}
+use Rattle.model.specs.Words.{Mem, word}
+use Rattle.model.specs.Layout.{sizesOk, root, listWords}
+use Rattle.model.specs.Stores.{Stores, storeList}
+use Rattle.model.specs.Journal.{isOpen, view}
+use Rattle.model.specs.Accept.{viewOk, accepted}
+use Rattle.model.specs.FileMap.{mapOf, mapAfter, Call, create, link, unlink, rename, write, setSize, clean, recover}
+use Rattle.model.specs.Power.{Power, held, cut, leaves}
+use Rattle.model.specs.Answer.{Answer, refused, done, Checks, firstRefusal}
+use Rattle.model.specs.Calls.{createChecks, createGroups, linkChecks, linkGroups, unlinkChecks, unlinkGroups, renameChecks, renameGroups, writeChecks, writeGroups, sizeChecks, sizeGroups, cleanChecks, cleanGroups, recoverGroups, checks, groups}
+use Rattle.model.specs.Public.{isVolume, isAccepted, needsClosed, volumeChecks, callChecks, fills}
+use Rattle.model.specs.Claim.{Bytes, CallBytes, Event, History, HistoryBytes, answerTo, landing, volumeAfter, mapIn, Demanded, Kept, ThirdDemand}
+use Rattle.model.proofs.Tests.{by-bool, ands}
+use Rattle.model.proofs.Words.{word-lt}
+use Rattle.model.proofs.Crash.Journal.{closed-view}
+use Rattle.model.proofs.Crash.Landing.{left, left-header, length-leaves, leaves-bytes, leaves-left, volume-parts, volume-short}
+use Rattle.model.proofs.Crash.Commit.{leads-held, leads-cut, Sound, Ready, recover-safe}
+
+-- Refusals: what holds of every refusal, and of the answer where no condition held, holds of the whole.
+
+abbrev pub Passed : Checks → Type 0
+Passed [] = Unit {0}
+Passed (t ∷ ts) = (t .0 ≡ false) × Passed ts
+
+pub by-refusals : {A : Type 0} (S : Answer A → Type 0) → ((n : ℕ) → S (refused n))
+    → (ts : Checks) (a : Answer A) → (Passed ts → S a) → S (firstRefusal ts a)
+by-refusals S r [] a f = f tt
+by-refusals S r (t ∷ ts) a f = by-bool (t .0) (λ e. rw e (r (t .1))) (λ e. rw e (by-refusals S r ts a (λ p. f (e, p))))
+
+-- What every call provides, from an accepted memory of 64-bit words on which none of its checks holds: sound groups.
+abbrev pub SafeCall : Call → Type 0
+SafeCall c =
+    (P N : ℕ) (m : Mem) → sizesOk P N ≡ true → accepted m P N ≡ true → ((w : ℕ) → m w < 2 ^ 64) → CallBytes c
+    → needsClosed c && isOpen m ≡ false → Passed (checks m P N c) → Sound P N m (groups m P N c) (mapAfter N c (mapOf (view m) P N))
+
+-- The same of a call that wants a closed journal, with its checks ts and its groups gs: the memory is its own view.
+abbrev pub Duty : ℕ → ℕ → Mem → Call → Checks → List Stores → Type 0
+Duty P N m c ts gs = CallBytes c → Passed ts → Sound P N m gs (mapAfter N c (mapOf m P N))
+
+pub record Duties (P N : ℕ) (m : Mem) : Type 0 where
+  pub create-duty : (n : List ℕ) → Duty P N m (create n) (createChecks m P N root n) (createGroups m P N root n)
+  pub link-duty : (a b : List ℕ) → Duty P N m (link a b) (linkChecks m P N root a b) (linkGroups m P N root a b)
+  pub unlink-duty : (n : List ℕ) → Duty P N m (unlink n) (unlinkChecks m P N root n) (unlinkGroups m P N root n)
+  pub rename-duty : (a b : List ℕ) → Duty P N m (rename a b) (renameChecks m P N root a b) (renameGroups m P N root a b)
+  pub write-duty : (k o : ℕ) (bs : List ℕ) → Duty P N m (write k o bs) (writeChecks m P N k o bs) (writeGroups m P N k o bs)
+  pub size-duty : (k s : ℕ) → Duty P N m (setSize k s) (sizeChecks m P N k s) (sizeGroups m P N k s)
+  pub clean-duty : (k : ℕ) → Duty P N m (clean k) (cleanChecks m P N k) (cleanGroups m P N k)
+
+module _ (Dead : ℕ → ℕ → Mem → ℕ → Type 0)
+    (frame : (P N : ℕ) → sizesOk P N ≡ true → (u u′ : Mem) → viewOk u P N ≡ true → ((w : ℕ) → (u′ w ≡ u w) ⊎ Dead P N u w)
+    → (viewOk u′ P N ≡ true) × (mapOf u′ P N ≡ mapOf u P N))
+    (page0-dead : (P N : ℕ) (u : Mem) (w : ℕ) → w < 64 → Dead P N u w)
+    (duties : (P N : ℕ) (m : Mem) → Ready P N m → Duties P N m) where
+  owed : (P N : ℕ) (m : Mem) → sizesOk P N ≡ true → accepted m P N ≡ true → ((w : ℕ) → m w < 2 ^ 64) → isOpen m ≡ false → Duties P N m
+  owed P N m s a w o = duties P N m (record { sizes = s; ok = a; closed = o; words = w })
+
+  pub calls-safe : (c : Call) → SafeCall c
+  unfolding checks groups mapAfter
+  calls-safe (create n) P N m s a w b o p = rw (closed-view m o) (owed P N m s a w o .create-duty n b (rw (closed-view m o) at p))
+  calls-safe (link x y) P N m s a w b o p = rw (closed-view m o) (owed P N m s a w o .link-duty x y b (rw (closed-view m o) at p))
+  calls-safe (unlink n) P N m s a w b o p = rw (closed-view m o) (owed P N m s a w o .unlink-duty n b (rw (closed-view m o) at p))
+  calls-safe (rename x y) P N m s a w b o p = rw (closed-view m o) (owed P N m s a w o .rename-duty x y b (rw (closed-view m o) at p))
+  calls-safe (write k x bs) P N m s a w b o p = rw (closed-view m o) (owed P N m s a w o .write-duty k x bs b (rw (closed-view m o) at p))
+  calls-safe (setSize k x) P N m s a w b o p = rw (closed-view m o) (owed P N m s a w o .size-duty k x b (rw (closed-view m o) at p))
+  calls-safe (clean k) P N m s a w b o p = rw (closed-view m o) (owed P N m s a w o .clean-duty k b (rw (closed-view m o) at p))
+  calls-safe recover P N m s a w b o p = recover-safe P N (Dead P N) (frame P N s) (page0-dead P N) m s a w
+
+-- One event.
+
+-- the bytes v′ that an answer a to call c leaves of v, of which pieces of 8 bytes landed
+record Good (v v′ : List ℕ) (c : Call) (p : Power) (a : Answer (List ℕ)) : Type 0 where
+  bytes : Bytes v′
+  ok : isAccepted v′ ≡ true
+  pages : word v′ 0 ≡ word v 0
+  inodes : word v′ 1 ≡ word v 1
+  demanded : Demanded v v′ c p a
+
+-- bytes with the length and the first words of a volume are one
+accepted-after : (v v′ : List ℕ) → isVolume (length v) (word v) ≡ true → length v′ ≡ length v → ((k : ℕ) → k < 8 → word v′ k ≡ word v k)
+    → accepted (word v′) (word v 0) (word v 1) ≡ true → isAccepted v′ ≡ true
+unfolding isAccepted isVolume
+accepted-after v v′ h l same a = rw (l, same 0 (omega arith), same 1 (omega arith), same 2 (omega arith), h) a
+
+-- a call that is not refused
+module _ (v : List ℕ) (is-volume : isVolume (length v) (word v) ≡ true) (gs : List Stores) (c : Call)
+    (s : Sound (word v 0) (word v 1) (word v) gs (mapAfter (word v 1) c (mapIn v))) where
+  abbrev l : List ℕ
+  l = storeList (64 * word v 0) gs
+
+  words-left : (p : Power) → word (leaves 8 p v l) ≡ left gs p (word v)
+  words-left p =
+      leaves-left (64 * word v 0) (volume-short (length v) (word v) is-volume) gs (s .fits) p v
+      (let h = volume-parts (length v) (word v) is-volume .bytes in omega arith)
+
+  header : (p : Power) (k : ℕ) → k < 8 → word (leaves 8 p v l) k ≡ word v k
+  header p k h = ap (λ (m : Mem). m k) (words-left p) ∙ left-header (64 * word v 0) gs (s .fits) p (word v) k h
+
+  accepted-left : (p : Power) → accepted (left gs p (word v)) (word v 0) (word v 1) ≡ true
+  unfolding left
+  accepted-left held = leads-held (word v 0) (word v 1) _ _ (word v) gs (s .leads) .1 .ok
+  accepted-left (cut g kept) =
+      ⊎-elim (λ z. z .ok) (λ z. z .ok) (leads-cut (word v 0) (word v 1) _ _ (word v) gs (s .leads) g kept)
+
+  map-left : (p : Power) → mapIn (leaves 8 p v l) ≡ mapOf (view (left gs p (word v))) (word v 0) (word v 1)
+  unfolding mapIn
+  map-left p = rw (header p 0 (omega arith), header p 1 (omega arith), words-left p)
+
+  demanded-left : (p : Power) → Demanded v (leaves 8 p v l) c p (done l)
+  unfolding left mapIn
+  demanded-left held =
+      let z = leads-held (word v 0) (word v 1) _ _ (word v) gs (s .leads) in (rw (words-left held) (z .0), map-left held ∙ z .1 .is)
+  demanded-left (cut g kept) =
+      ⊎-map (λ z. map-left (cut g kept) ∙ z .is) (λ z. map-left (cut g kept) ∙ z .is)
+      (leads-cut (word v 0) (word v 1) _ _ (word v) gs (s .leads) g kept)
+
+  good-done : (p : Power) → Bytes v → Good v (leaves 8 p v l) c p (done l)
+  good-done p b =
+      record {
+        bytes = leaves-bytes 8 p v l b;
+        ok = accepted-after v (leaves 8 p v l) is-volume (length-leaves 8 p v l) (header p) (rw (words-left p) (accepted-left p));
+        pages = header p 0 (omega arith);
+        inodes = header p 1 (omega arith);
+        demanded = demanded-left p;
+      }
+
+-- every call is safe
+module _ (safe : (c : Call) → SafeCall c) where
+  good : (v : List ℕ) → Bytes v → isAccepted v ≡ true → (e : Event) → CallBytes (e .call)
+      → Good v (landing 8 (e .power) v (answerTo v e)) (e .call) (e .power) (answerTo v e)
+  unfolding answerTo fills callChecks volumeChecks isAccepted mapIn
+  good v b a e n =
+      let m = word v in
+      let is-volume : isVolume (length v) m ≡ true = search ands in
+      let acc : accepted m (m 0) (m 1) ≡ true = search ands in
+      let sizes = volume-parts (length v) m is-volume .sizes in
+      by-refusals (λ (r : Answer (List ℕ)). Good v (landing 8 (e .power) v r) (e .call) (e .power) r)
+      (λ k. record { bytes = b; ok = a; pages = refl; inodes = refl; demanded = refl })
+      (callChecks (length v) m (e .list) (e .call)) (done (storeList (64 * m 0) (groups m (m 0) (m 1) (e .call))))
+      (λ p. good-done v is-volume (groups m (m 0) (m 1) (e .call)) (e .call)
+      (safe (e .call) (m 0) (m 1) m sizes acc (λ w. word-lt v w b) n (p .1 .1 .1 .0) (p .1 .1 .1 .1)) (e .power) b)
+
+  pub history-kept : (v : List ℕ) → Bytes v → isAccepted v ≡ true → (es : History) → HistoryBytes es → Kept 8 v es
+  unfolding volumeAfter
+  history-kept v b a [] n = tt
+  history-kept v b a (e ∷ es) n =
+      let g = good v b a e (n .0) in (
+        record { is-accepted = g .ok; same-pages = g .pages; same-inodes = g .inodes; demanded = g .demanded },
+        history-kept (volumeAfter 8 v e) (g .bytes) (g .ok) es (n .1),
+      )
+
+  pub third-demand : ThirdDemand 8
+  third-demand v b a o es n = history-kept v b a es n
+
+-- Recover on an accepted volume is done, whatever its journal: it has no check of its own.
+pub recover-done : (v : List ℕ) (l : ℕ) → isAccepted v ≡ true → listWords ≤ l
+    → fills (length v) (word v) l recover ≡ done (storeList (64 * word v 0) (recoverGroups (word v)))
+unfolding isAccepted fills callChecks volumeChecks checks groups
+recover-done v l a h =
+    let is-volume : isVolume (length v) (word v) ≡ true = search ands in
+    let acc : accepted (word v) (word v 0) (word v 1) ≡ true = search ands in rw (le-ltb l listWords h, is-volume, acc)
