@@ -5,3 +5,7 @@ pub mod Changed
 pub mod Stored
 pub mod Small
 pub mod Grown
+pub mod Names
+pub mod NameCalls
+pub mod Files
+pub mod Clean

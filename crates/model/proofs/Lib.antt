@@ -8,3 +8,4 @@ pub mod Frame
 pub mod State
 pub mod Crash
 pub mod Calls
+pub mod ThirdDemand

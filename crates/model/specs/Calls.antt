@@ -95,6 +95,10 @@ pub record Append : Type 0 where
 unfoldable pub entriesOnly : ℕ → List (List ℕ) → Append
 entriesOnly k es = record { log = k; dataPages = 0; words = λ j. 0; entriesAt = λ d. es }
 
+-- how many file pages there are from the one that holds byte o up to the one that holds byte e − 1
+abbrev pub pagesCovered : ℕ → ℕ → ℕ
+pagesCovered o e = (e - 1) / 512 + 1 - o / 512
+
 -- Below, d is the inode of the directory in which names are read and changed.
 module _ (u : Mem) (P N : ℕ) where
   -- "Data goes to the lowest run of enough free pages": the first page of the lowest run of n. "Pages let go by a call are not free to it."
@@ -215,10 +219,6 @@ module _ (u : Mem) (P N : ℕ) where
   unfoldable pub writtenByte : ℕ → ℕ → List ℕ → ℕ → ℕ
   writtenByte k o bs x =
       cond (leb o x && ltb x (o + length bs)) (getD bs (x - o) 0) (fileByte u (fileOf u P N k) x)
-
-  -- the file pages from the one that holds byte o up to the one that holds byte e − 1
-  abbrev pub pagesCovered : ℕ → ℕ → ℕ
-  pagesCovered o e = (e - 1) / 512 + 1 - o / 512
 
   -- "Size becomes the larger of old size and end."
   unfoldable pub writeAppend : ℕ → ℕ → List ℕ → Append

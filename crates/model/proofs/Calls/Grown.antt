@@ -63,7 +63,7 @@ module _ {m : Mem} {P N : ℕ} {a : Append} {s : Stores} {cs : List Change} (c :
   -- the view after it
   pub grown-fine : cond (isDirectory (a .log)) (all (nameEntryOk N) (map decode (appended m P N a))) (all (fileEntryOk P N) (map decode (appended m P N a))) ≡ true
       → ((a .log ≡ 0 → ⊥) → (p : ℕ) → (p ≡ 0 → ⊥)
-        → mappedTo (fileOf now P N (a .log)) p ≤ mappedTo (fileOf m P N (a .log)) p + bit (within (dataStart m P N a) (dataStart m P N a + a .dataPages) p))
+      → mappedTo (fileOf now P N (a .log)) p ≤ mappedTo (fileOf m P N (a .log)) p + bit (within (dataStart m P N a) (dataStart m P N a + a .dataPages) p))
       → ((a .log ≡ 0 → ⊥) → endOk now (fileOf now P N (a .log)) ≡ true)
       → ((i : ℕ) → i < N → (i ≡ a .log → ⊥) → After m now P N i)
       → namesOk now N (namesOf now P N root) ≡ true → viewOk now P N ≡ true
@@ -99,10 +99,10 @@ module _ {m : Mem} {P N : ℕ} {a : Append} {s : Stores} {cs : List Change} (c :
       let p = page-small P N (b .0) (freshLog m P N a) (fits c .inside) 0 in
       only-both
       (only-run (Inside P) (64 * d) (64 * a .dataPages) (a .words)
-        (λ j l. let q = room-bounds m P N d (a .dataPages) (freshLog m P N a) (freshPages m P N a) room (omega arith) in (omega arith, w j)))
+      (λ j l. let q = room-bounds m P N d (a .dataPages) (freshLog m P N a) (freshPages m P N a) room (omega arith) in (omega arith, w j)))
       (only-both (lay-small P N (b .0) (tailPages m (a .log) ++ freshLog m P N a) (tail-inside (fits c)) (tailSlots m (a .log)) (appended m P N a) e)
       (only-if (eqb (m (tailWord (a .log))) 0)
-        (λ t. only-word (Inside P) (headWord (a .log)) (getD (freshLog m P N a) 0 0) (omega (arith, below, sizes-whole P N sizes .0), omega arith))))
+      (λ t. only-word (Inside P) (headWord (a .log)) (getD (freshLog m P N a) 0 0) (omega (arith, below, sizes-whole P N sizes .0), omega arith))))
 
   pub grown-tail : newTail m P N a .1 < 2 ^ 64
   unfolding newTail

@@ -2,25 +2,28 @@
 use mathlib.Core.Path.{_≡_, refl, sym, _∙_}
 use mathlib.Core.Logic.{_⊎_, inl, inr, ⊎-elim}
 use Prim.Native.Nat.{ℕ, zero, suc, _+_, _-_, _*_, _/_, _%_, _^_, _≤_, _<_}
-use mathlib.Core.Bool.{Bool, true, false, cond, _&&_}
+use mathlib.Core.Bool.{Bool, true, false, cond, _&&_, not}
 use mathlib.Core.List.{List, [], _∷_, _++_}
 use mathlib.Core.Option.{Option, none, some}
 use native.Mathlib.Omega.{arith}
 use lib.ListN.{length, getD, List·getD-eq-default}
 use lib.Dec.{leb, ltb, eqb}
 use borrow.Author.Tests.{eqb-true, ltb-true, leb-true, eq-eqb, ne-eqb}
-use Rattle.model.specs.Lists.{all, has, indexOf}
+use Rattle.model.specs.Lists.{bit, all, indexOf}
 use Rattle.model.specs.Words.{Mem, word, leFrom}
 use Rattle.model.specs.Layout.{sizesOk, inPages, headWord, tailWord}
 use Rattle.model.specs.Log.{tailSlots}
 use Rattle.model.specs.Entry.{writeWords, sizeWords, nameWords, addWords, removeWords}
 use Rattle.model.specs.Stores.{Stores}
-use Rattle.model.specs.Calls.{layEntries, tailAfter}
+use Rattle.model.specs.State.{File, Names}
+use Rattle.model.specs.Calls.{layEntries, tailAfter, stretchEntry, stretches, cleanFile, cleanNames}
 use Rattle.model.specs.Claim.{Bytes}
-use Rattle.model.proofs.Tests.{by-bool, by-lt, not-some, cond-some}
+use Rattle.model.proofs.Tests.{by-bool, by-lt, bit-le, not-some, cond-some}
 use Rattle.model.proofs.Lists.{has-getD, all-has}
 use Rattle.model.proofs.Words.{word-lt}
+use Rattle.model.proofs.Log.Decode.{name-short}
 use Rattle.model.proofs.Log.Live.{lay-in}
+use Rattle.model.proofs.State.NameEntries.{GoodName, GoodNames}
 use Rattle.model.proofs.Frame.Placed.{in-bounds}
 use Rattle.model.proofs.Crash.Stores.{Each}
 
@@ -108,7 +111,45 @@ module _ (P N : ℕ) (few : P ≤ 4096) (ps : List ℕ) (in-all : all (inPages P
       let p = page-small (j + 1) in
       let l : getD ps (j + 1) 0 < 2 ^ 64 = omega arith in
       let last = cond (ltb o 56 && leb i t && ltb t (i + length es)) (some (getD (getD es (t - i) []) (o % 8) 0)) none in
-      let c = cond-some (ltb j (length ps)) (cond (eqb o 56) (cond (ltb (j + 1) (length ps)) (some (getD ps (j + 1) 0)) none) last) x e in
-      (omega arith,
+      let c = cond-some (ltb j (length ps)) (cond (eqb o 56) (cond (ltb (j + 1) (length ps)) (some (getD ps (j + 1) 0)) none) last) x e in (
+        omega arith,
         one-of-two (eqb o 56) (ltb (j + 1) (length ps)) (ltb o 56 && leb i t && ltb t (i + length es)) (getD ps (j + 1) 0)
-        (getD (getD es (t - i) []) (o % 8) 0) x (2 ^ 64) (c .1) l (small (t - i) (o % 8)))
+            (getD (getD es (t - i) []) (o % 8) 0) x (2 ^ 64) (c .1) l (small (t - i) (o % 8)),
+      )
+
+-- What clean writes.
+
+append-small : (xs ys : List (List ℕ)) → SmallEntries xs → SmallEntries ys → SmallEntries (xs ++ ys)
+append-small [] ys a b = b
+append-small (x ∷ xs) ys a b = cons-small x (xs ++ ys) (a 0) (append-small xs ys (λ i. a (suc i)) b)
+
+pub clean-names-small : (N : ℕ) (ns : Names) → N ≤ 256 → GoodNames N ns → SmallEntries (cleanNames ns)
+unfolding cleanNames
+clean-names-small N [] l g = no-small
+clean-names-small N (p ∷ ps) l g =
+    cons-small (addWords (p .1) (p .0)) (cleanNames ps) (add-small (p .1) (p .0) (omega (arith, g .0 .below)) (name-short (p .0) (g .0 .fine)) (g .0 .bytes)) (clean-names-small N ps l (g .1))
+
+module _ (f : File) (pages : (i : ℕ) → f .page i ≤ 4096) (size : f .size ≤ 65536) where
+  stretch-small : (a d c : ℕ) → a ≤ 128 → d ≤ 4096 → c ≤ 128 → SmallEntries (stretchEntry (f .size) a d c)
+  unfolding stretchEntry
+  stretch-small a d c h g l =
+      by-bool (eqb c 0) (λ e. rw e no-small)
+      (λ e. rw e (cons-small (writeWords a d c (f .size)) [] (write-small a d c (f .size) (omega arith) (omega arith) (omega arith) (omega arith)) no-small))
+
+  stretches-small : (n i a d c : ℕ) → i + n ≤ 128 → a ≤ 128 → d ≤ 4096 → c ≤ i → SmallEntries (stretches f n i a d c)
+  unfolding stretches
+  stretches-small zero i a d c t h g l = stretch-small a d c h g (omega arith)
+  stretches-small (suc n) i a d c t h g l =
+      by-bool (not (eqb (f .page i) 0) && not (eqb c 0) && eqb (f .page i) (d + c))
+      (λ e. rw (stretches, e) (stretches-small n (i + 1) a d (c + 1) (omega arith) h g (omega arith)))
+      (λ e.
+      let b = bit-le (not (eqb (f .page i) 0)) in
+      rw (stretches, e) (append-small (stretchEntry (f .size) a d c) _ (stretch-small a d c h g (omega arith))
+      (stretches-small n (i + 1) i (f .page i) (bit (not (eqb (f .page i) 0))) (omega arith) (omega arith) (pages i) (omega arith))))
+
+  pub clean-file-small : SmallEntries (cleanFile f)
+  unfolding cleanFile
+  clean-file-small =
+      by-bool (eqb (length (stretches f 128 0 0 0 0)) 0)
+      (λ e. rw e (by-bool (eqb (f .size) 0) (λ z. rw z no-small) (λ z. rw z (cons-small (sizeWords (f .size)) [] (size-small (f .size) (omega arith)) no-small))))
+      (λ e. rw e (stretches-small 128 0 0 0 0 (omega arith) (omega arith) (omega arith) (omega arith)))

@@ -187,9 +187,10 @@ module _ {m : Mem} {P N : ℕ} {a : Append} {s : Stores} {cs : List Change} (c :
       let z = sizes-whole P N sizes .0 in
       rw (
         outside (64 * d) (64 * d + 64 * a .dataPages) w
-          (λ p q. let f = free-bounds m P N _ (run-page m P N d (a .dataPages) ls (freshPages m P N a) room (w / 64) (omega arith) (omega arith)) in omega arith),
+            (λ p q. let f = free-bounds m P N _ (run-page m P N d (a .dataPages) ls (freshPages m P N a) room (w / 64) (omega arith) (omega arith)) in omega arith),
         lay-low P N (tailPages m k ++ ls) (tailSlots m k) es z (tail-inside fits) w l,
-        one-other (headWord k) (getD ls 0 0) w n)
+        one-other (headWord k) (getD ls 0 0) w n,
+      )
       (by-bool (eqb (m (tailWord k)) 0) (λ t. rw t) (λ t. rw t))
 
   -- an empty log gets its head

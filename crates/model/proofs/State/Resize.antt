@@ -42,16 +42,21 @@ module _ (u : Mem) (P N k s : ℕ) where
   unfolding sizeAppend foldl
   plain-file d t = rw (t, decode-size)
 
+  pub one-page : cutsPage u P N k s ≡ true → 1 ≤ sizeAppend u P N k s .dataPages
+  unfolding sizeAppend bit
+  one-page t = rw t (omega arith)
+
+  -- what is kept are bytes
+  pub kept-lt : (x : ℕ) → keptByte u P N k s x < 256
+  unfolding keptByte
+  kept-lt x = by-bool (ltb x s) (λ e. rw e (fileByte-lt u old x)) (λ e. rw e (omega arith))
+
   inner : cutsPage u P N k s ≡ true → s % 512 ≡ 0 → ⊥
   unfolding cutsPage
   inner t = eqb-false (s % 512) 0 (not-true (eqb (s % 512) 0) (search ands))
 
   module _ (u′ : Mem) (d : ℕ) (filled : Filled u u′ P N (sizeAppend u P N k s) d) where
     open Filled filled using (above, below, stored, kept)
-
-    one-page : cutsPage u P N k s ≡ true → 1 ≤ sizeAppend u P N k s .dataPages
-    unfolding sizeAppend bit
-    one-page t = rw t (omega arith)
 
     pub resize-entries : s ≤ 65536 → old .size ≤ 65536 → all (fileEntryOk P N) (map decode (sizeAppend u P N k s .entriesAt d)) ≡ true
     unfolding sizeAppend all bit cutsPage
@@ -66,10 +71,6 @@ module _ (u : Mem) (P N k s : ℕ) where
     module _ (placed : Placed P N old) (fine : endOk u old ≡ true) where
       was-ended : Ended u old
       was-ended = placed-ended u P N old placed fine
-
-      kept-lt : (x : ℕ) → keptByte u P N k s x < 256
-      unfolding keptByte
-      kept-lt x = by-bool (ltb x s) (λ e. rw e (fileByte-lt u old x)) (λ e. rw e (omega arith))
 
       cut-byte : cutsPage u P N k s ≡ true → (x : ℕ)
           → fileByte u′ (fileStep (fileStep old (sizeEntry s)) (writeEntry (s / 512) d 1 s)) x ≡ keptByte u P N k s x

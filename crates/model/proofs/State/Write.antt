@@ -27,7 +27,7 @@ module _ (u : Mem) (P N k o : ℕ) (bs : List ℕ) where
   end = o + length bs
 
   abbrev count : ℕ
-  count = pagesCovered u P N o end
+  count = pagesCovered o end
 
   pub write-file : (d : ℕ) → fileAfter u P N (writeAppend u P N k o bs) d ≡ fileStep old (writeEntry (o / 512) d count (max (old .size) end))
   unfolding writeAppend foldl
@@ -36,6 +36,11 @@ module _ (u : Mem) (P N k o : ℕ) (bs : List ℕ) where
   -- the file pages that are written
   pub write-run : 0 < length bs → length bs ≤ 4096 → end ≤ 65536 → (1 ≤ count) × (count ≤ 9) × (o / 512 + count ≤ 128)
   write-run h l e = omega arith
+
+  -- what is written are bytes
+  pub written-lt : Bytes bs → (x : ℕ) → writtenByte u P N k o bs x < 256
+  unfolding writtenByte
+  written-lt small x = by-bool (within o end x) (λ e. rw e (small (x - o))) (λ e. rw e (fileByte-lt u old x))
 
   module _ (some-bytes : 0 < length bs) (u′ : Mem) (d : ℕ) (filled : Filled u u′ P N (writeAppend u P N k o bs) d) where
     open Filled filled using (above, below, stored, kept)
@@ -51,16 +56,12 @@ module _ (u : Mem) (P N k o : ℕ) (bs : List ℕ) where
       was-ended : Ended u old
       was-ended = placed-ended u P N old placed fine
 
-      written-lt : (x : ℕ) → writtenByte u P N k o bs x < 256
-      unfolding writtenByte
-      written-lt x = by-bool (within o end x) (λ e. rw e (small (x - o))) (λ e. rw e (fileByte-lt u old x))
-
       write-byte : (x : ℕ) → fileByte u′ (fileAfter u P N (writeAppend u P N k o bs) d) x ≡ writtenByte u P N k o bs x
       unfolding writeAppend writtenByte
       write-byte x =
           let a = above (omega arith) in
           ap (λ (f : File). fileByte u′ f x) (write-file d)
-          ∙ mapping-byte u′ (o / 512) d count (writtenByte u P N k o bs) written-lt stored u old (max (old .size) end) (omega arith) kept x
+          ∙ mapping-byte u′ (o / 512) d count (writtenByte u P N k o bs) (written-lt small) stored u old (max (old .size) end) (omega arith) kept x
           ∙ by-range (o / 512) (o / 512 + count) (x / 512) (λ t h k. rw t)
           (λ t h. rw (t, outside o end x (λ p q. h (omega arith) (omega arith))))
 
