@@ -15,3 +15,4 @@ pub mod Calls
 pub mod Public
 pub mod Listing
 pub mod Claim
+pub mod Promises

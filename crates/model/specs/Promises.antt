@@ -1,0 +1,132 @@
+-- What else is promised: corollaries of the third demand, the shape of every store list, format, and the reading calls in terms of the file map.
+use Prim.Native.Nat.{ℕ, _+_, _-_, _*_, _%_, _^_, _≤_, _<_}
+use mathlib.Core.Path.{_≡_}
+use mathlib.Core.Logic.{_⊎_}
+use mathlib.Core.Bool.{Bool, true, false, cond, _&&_, _||_}
+use mathlib.Core.List.{List, [], _∷_}
+use mathlib.Core.Option.{Option, none, some}
+use lib.ListN.{length, take, drop, getD}
+use lib.Dec.{leb, ltb, eqb}
+use Rattle.model.specs.Words.{word}
+use Rattle.model.specs.Layout.{sizesOk, tablePages, listWords}
+use Rattle.model.specs.Journal.{isOpen}
+use Rattle.model.specs.Entry.{nameOk, padded}
+use Rattle.model.specs.State.{inodeOf}
+use Rattle.model.specs.FileMap.{FileMap, mapAfter, Call, recover}
+use Rattle.model.specs.Stores.{fence}
+use Rattle.model.specs.Power.{Power, held, cut, group, leaves}
+use Rattle.model.specs.Answer.{Answer, refused, done, Nothing, notThere, filledFrom}
+use Rattle.model.specs.Public.{isAccepted, fills, callList, formatAnswer, formatVolume, pairsOk, endsInFence, carryOut, findAnswer, sizeAnswer, readAnswer, readBuffer, kthNameAnswer, kthNameBuffer, freeAnswer}
+use Rattle.model.specs.Claim.{Bytes, CallBytes, Event, History, HistoryBytes, answerTo, volumeAfter, mapIn}
+
+-- Below, pieces of 8 bytes land whole.
+
+-- what an event leaves: refused, what holds without it; landed, what holds with it; cut, one of the two
+abbrev pub byOutcome : Answer (List ℕ) → Power → Type 0 → Type 0 → Type 0
+byOutcome (refused n) p without with′ = without
+byOutcome (done l) held without with′ = with′
+byOutcome (done l) (cut g kept) without with′ = without ⊎ with′
+
+-- "So every call finished earlier is kept": after a history that starts at the volume v with the map M, the map is M with every finished call applied,
+-- and of the cut calls some, in order.
+abbrev pub Explained : List ℕ → FileMap → History → Type 0
+Explained v M [] = mapIn v ≡ M
+Explained v M (e ∷ es) =
+    byOutcome (answerTo v e) (e .power) (Explained (volumeAfter 8 v e) M es) (Explained (volumeAfter 8 v e) (mapAfter (word v 1) (e .call) M) es)
+
+abbrev pub FinishedKept : Type 0
+FinishedKept = (v : List ℕ) → Bytes v → isAccepted v ≡ true → (es : History) → HistoryBytes es → Explained v (mapIn v) es
+
+-- "the count of file maps that a cut can leave is at most two": of three cuts of one call, two leave the same map
+abbrev pub leftBy : List ℕ → Call → ℕ → ℕ → (ℕ → Bool) → FileMap
+leftBy v c l g kept = mapIn (volumeAfter 8 v (record { call = c; list = l; power = cut g kept }))
+
+abbrev pub AtMostTwo : Type 0
+AtMostTwo =
+    (v : List ℕ) → Bytes v → isAccepted v ≡ true → (c : Call) → CallBytes c → (l : ℕ) (g₁ g₂ g₃ : ℕ) (k₁ k₂ k₃ : ℕ → Bool)
+    → (leftBy v c l g₁ k₁ ≡ leftBy v c l g₂ k₂) ⊎ ((leftBy v c l g₁ k₁ ≡ leftBy v c l g₃ k₃) ⊎ (leftBy v c l g₂ k₂ ≡ leftBy v c l g₃ k₃))
+
+-- "a recovery run through, however many were cut, closes the journal and keeps the map": recoveries with any lists and any power, then one that lands
+abbrev pub recoverWith : ℕ → Power → Event
+recoverWith l p = record { call = recover; list = l; power = p }
+
+abbrev pub recoveries : List (ℕ × Power) → List ℕ → List ℕ
+recoveries [] v = v
+recoveries (r ∷ rs) v = recoveries rs (volumeAfter 8 v (recoverWith (r .0) (r .1)))
+
+pub record Recovered (v w : List ℕ) (l : ℕ) : Type 0 where
+  pub is-done : (n : ℕ) → answerTo w (recoverWith l held) ≡ refused n → ⊥
+  pub is-accepted : isAccepted (volumeAfter 8 w (recoverWith l held)) ≡ true
+  pub is-closed : isOpen (word (volumeAfter 8 w (recoverWith l held))) ≡ false
+  pub same-map : mapIn (volumeAfter 8 w (recoverWith l held)) ≡ mapIn v
+
+abbrev pub RunThrough : Type 0
+RunThrough =
+    (v : List ℕ) → Bytes v → isAccepted v ≡ true → (rs : List (ℕ × Power)) (l : ℕ) → listWords ≤ l → Recovered v (recoveries rs v) l
+
+-- Store lists.
+
+-- pairs in ascending index, each word once, from index a on
+unfoldable pub ascending : ℕ → List ℕ → Bool
+ascending a [] = true
+ascending a (i ∷ []) = false
+ascending a (i ∷ x ∷ r) = leb a i && ascending (i + 1) r
+
+-- pairs that store a word of 64 bits in a word behind words 0, 1 and 2
+unfoldable pub storable : List ℕ → Bool
+storable [] = true
+storable (i ∷ []) = false
+storable (i ∷ x ∷ r) = ltb 2 i && ltb x (2 ^ 64) && storable r
+
+-- what holds of the words ws that a call fills on the volume v into the lent list
+pub record ListFine (v ws list : List ℕ) : Type 0 where
+  pub fits : length ws ≤ listWords
+  pub groups-ascend : (g : ℕ) → ascending 0 (group g ws) ≡ true
+  pub words-storable : storable ws ≡ true
+  pub indices-inside : pairsOk (64 * word v 0) ws ≡ true
+  pub last-fence : endsInFence ws ≡ true
+  -- "Landed whole, a list leaves what carry out leaves."
+  pub carried-out : carryOut v (filledFrom list (done ws)) (length ws) ≡ done (leaves 8 held v ws)
+
+abbrev pub ListsFine : Type 0
+ListsFine =
+    (v : List ℕ) → Bytes v → isAccepted v ≡ true → (c : Call) → CallBytes c → (list ws : List ℕ)
+    → fills (length v) (word v) (length list) c ≡ done ws → ListFine v ws list
+
+-- Format: an accepted volume with its journal closed, no names and P − T − 1 free pages, whatever the bytes before.
+pub record Formatted (v : List ℕ) (P N : ℕ) : Type 0 where
+  pub is-done : formatAnswer v P N ≡ done (record {})
+  pub is-accepted : isAccepted (formatVolume v P N) ≡ true
+  pub is-closed : isOpen (word (formatVolume v P N)) ≡ false
+  pub pages : word (formatVolume v P N) 0 ≡ P
+  pub inodes : word (formatVolume v P N) 1 ≡ N
+  pub no-names : mapIn (formatVolume v P N) .names ≡ []
+  pub no-files : (k : ℕ) → mapIn (formatVolume v P N) .files k ≡ none
+  pub free : freeAnswer (formatVolume v P N) ≡ done (P - tablePages N - 1)
+
+abbrev pub FormatDone : Type 0
+FormatDone = (v : List ℕ) (P N : ℕ) → sizesOk P N ≡ true → length v ≡ 512 * P → Formatted v P N
+
+-- The reading calls, on an accepted volume with its journal closed, answer what its file map says.
+
+-- what f says of something that is there; else 6
+abbrev pub ifThere : {A B : Type 0} → Option A → (A → B) → Answer B
+ifThere none f = refused notThere
+ifThere (some a) f = done (f a)
+
+-- the k-th name of a map
+abbrev pub kthOf : FileMap → ℕ → Option (List ℕ)
+kthOf M k = cond (ltb k (length (M .names))) (some (getD (M .names) k ([], 0) .0)) none
+
+pub record ReadsMap (v : List ℕ) : Type 0 where
+  pub finds : (n : List ℕ) → nameOk n ≡ true
+      → findAnswer v n ≡ ifThere (cond (eqb (inodeOf (mapIn v .names) n) 0) none (some (inodeOf (mapIn v .names) n))) (λ i. i)
+  pub sizes : (k : ℕ) → sizeAnswer v k ≡ ifThere (mapIn v .files k) length
+  pub reads : (k o : ℕ) (buffer : List ℕ) → readAnswer v k o buffer ≡ ifThere (mapIn v .files k) (λ bs. length (take (length buffer) (drop o bs)))
+  pub fills-buffer : (k o : ℕ) (buffer : List ℕ)
+      → readBuffer v k o buffer ≡ filledFrom buffer (ifThere (mapIn v .files k) (λ bs. take (length buffer) (drop o bs)))
+  pub names : (k : ℕ) (buffer : List ℕ) → 32 ≤ length buffer → kthNameAnswer v k buffer ≡ ifThere (kthOf (mapIn v) k) length
+  pub names-buffer : (k : ℕ) (buffer : List ℕ) → 32 ≤ length buffer → kthNameBuffer v k buffer ≡ filledFrom buffer (ifThere (kthOf (mapIn v) k) padded)
+
+abbrev pub ReadingDone : Type 0
+ReadingDone = (v : List ℕ) → isAccepted v ≡ true → isOpen (word v) ≡ false → ReadsMap v
