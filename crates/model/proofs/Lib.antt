@@ -9,3 +9,4 @@ pub mod State
 pub mod Crash
 pub mod Calls
 pub mod ThirdDemand
+pub mod Corollaries
