@@ -10,3 +10,5 @@ pub mod Crash
 pub mod Calls
 pub mod ThirdDemand
 pub mod Corollaries
+pub mod Reading
+pub mod Format

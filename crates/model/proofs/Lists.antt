@@ -74,6 +74,14 @@ sumBelow-once (suc n) k b f h z =
     by-eq n k (λ e. let a = h n in let c = r .1 (omega arith) in (omega arith, λ l. omega arith))
     (λ e. let a = z n e in let d = r .0 in (omega arith, λ l. let c = r .1 (omega arith) in omega arith))
 
+-- a sum of which the first a summands are 0 and the others 1
+pub sumBelow-from : (n a : ℕ) (f : ℕ → ℕ) → ((i : ℕ) → i < n → i < a → f i ≡ 0) → ((i : ℕ) → i < n → a ≤ i → f i ≡ 1) → sumBelow n f ≡ n - a
+unfolding sumBelow
+sumBelow-from zero a f z o = omega arith
+sumBelow-from (suc n) a f z o =
+    let r = sumBelow-from n a f (λ i l h. z i (omega arith) h) (λ i l h. o i (omega arith) h) in
+    by-lt n a (λ h. let e = z n (omega arith) h in omega arith) (λ h. let e = o n (omega arith) h in omega arith)
+
 -- Values.
 
 pub length-values : (f : ℕ → ℕ) (x n : ℕ) → length (valuesFrom f x n) ≡ n
