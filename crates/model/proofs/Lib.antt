@@ -12,3 +12,5 @@ pub mod ThirdDemand
 pub mod Corollaries
 pub mod Reading
 pub mod Format
+pub mod Lengths
+pub mod StoreLists

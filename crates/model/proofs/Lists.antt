@@ -152,6 +152,21 @@ has-getD [] j h = absurd (omega arith)
 has-getD (p ∷ ps) zero h = has-head p ps
 has-getD (p ∷ ps) (suc j) h = has-tail (getD ps j 0) p ps (has-getD ps j (omega arith))
 
+pub has-left : (x : ℕ) (xs ys : List ℕ) → has x xs ≡ true → has x (xs ++ ys) ≡ true
+unfolding has
+has-left x [] ys h = no h
+has-left x (y ∷ xs) ys h =
+    ⊎-elim (λ e. rw e (has-head y (xs ++ ys))) (λ g. has-tail x y (xs ++ ys) (has-left x xs ys g)) (has-cons x y xs h)
+
+pub has-right : (x : ℕ) (xs ys : List ℕ) → has x ys ≡ true → has x (xs ++ ys) ≡ true
+has-right x [] ys h = h
+has-right x (y ∷ xs) ys h = has-tail x y (xs ++ ys) (has-right x xs ys h)
+
+pub values-has : (f : ℕ → ℕ) (x n i : ℕ) → x ≤ i → i < x + n → has (f i) (valuesFrom f x n) ≡ true
+values-has f x n i a b =
+    let e : x + (i - x) ≡ i = omega arith in
+    rw (values-at f x n (i - x) (omega arith), e) at (has-getD (valuesFrom f x n) (i - x) (rw length-values (omega arith)))
+
 -- Counts.
 
 pub count-append : (x : ℕ) (xs ys : List ℕ) → count x (xs ++ ys) ≡ count x xs + count x ys
@@ -192,6 +207,13 @@ unfolding indexOf has
 index-has x [] h = absurd (omega arith)
 index-has x (p ∷ ps) h =
     by-bool (eqb x p) (λ e. rw (has, e)) (λ e. rw (has, e) (index-has x ps (let g = rw (indexOf, e) at h in omega arith)))
+
+pub getD-index : (x : ℕ) (ps : List ℕ) → indexOf x ps < length ps → getD ps (indexOf x ps) 0 ≡ x
+unfolding indexOf
+getD-index x [] h = absurd (omega arith)
+getD-index x (p ∷ ps) h =
+    by-bool (eqb x p) (λ e. rw (indexOf, e) (sym (eqb-true x p e)))
+    (λ e. let g = rw (indexOf, e) at h in rw (indexOf, e, add-one (indexOf x ps)) (getD-index x ps (omega arith)))
 
 pub index-first : (p : ℕ) (ps : List ℕ) → indexOf p (p ∷ ps) ≡ 0
 unfolding indexOf

@@ -12,7 +12,7 @@ use Rattle.model.specs.Layout.{sizesOk, tablePages, listWords}
 use Rattle.model.specs.Journal.{isOpen}
 use Rattle.model.specs.Entry.{nameOk, padded}
 use Rattle.model.specs.State.{inodeOf}
-use Rattle.model.specs.FileMap.{FileMap, mapAfter, Call, recover}
+use Rattle.model.specs.FileMap.{FileMap, mapAfter, Call, create, link, unlink, rename, write, setSize, clean, recover}
 use Rattle.model.specs.Stores.{fence}
 use Rattle.model.specs.Power.{Power, held, cut, group, leaves}
 use Rattle.model.specs.Answer.{Answer, refused, done, Nothing, notThere, filledFrom}
@@ -78,8 +78,20 @@ storable [] = true
 storable (i ∷ []) = false
 storable (i ∷ x ∷ r) = ltb 2 i && ltb x (2 ^ 64) && storable r
 
--- what holds of the words ws that a call fills on the volume v into the lent list
-pub record ListFine (v ws list : List ℕ) : Type 0 where
+-- the longest list of each call, in words: a call that is not refused with 1 has room for it
+abbrev pub mostWords : Call → ℕ
+mostWords (create n) = 46
+mostWords (link a b) = 24
+mostWords (unlink n) = 42
+mostWords (rename a b) = 58
+mostWords (write k o bs) = 1176
+mostWords (setSize k s) = 168
+mostWords (clean k) = 3670
+mostWords recover = 14
+
+-- what holds of the words ws that call c fills on the volume v into the lent list
+pub record ListFine (c : Call) (v ws list : List ℕ) : Type 0 where
+  pub short : length ws ≤ mostWords c
   pub fits : length ws ≤ listWords
   pub groups-ascend : (g : ℕ) → ascending 0 (group g ws) ≡ true
   pub words-storable : storable ws ≡ true
@@ -91,7 +103,7 @@ pub record ListFine (v ws list : List ℕ) : Type 0 where
 abbrev pub ListsFine : Type 0
 ListsFine =
     (v : List ℕ) → Bytes v → isAccepted v ≡ true → (c : Call) → CallBytes c → (list ws : List ℕ)
-    → fills (length v) (word v) (length list) c ≡ done ws → ListFine v ws list
+    → fills (length v) (word v) (length list) c ≡ done ws → ListFine c v ws list
 
 -- Format: an accepted volume with its journal closed, no names and P − T − 1 free pages, whatever the bytes before.
 pub record Formatted (v : List ℕ) (P N : ℕ) : Type 0 where
