@@ -1,0 +1,3 @@
+-- Views has the laws for crates above; Turns has the cases of this crate's loops.
+pub mod Views
+mod Turns

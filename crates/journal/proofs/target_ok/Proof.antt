@@ -1,0 +1,17 @@
+-- Each answer is one case of the definition's tests.
+use borrow.Author.Needs.{needs}
+use Rattle.model.specs.Journal.{targetOk}
+use Rattle.words.proofs.Cond.{ands}
+use Rattle.journal.proofs.target_ok.Statement.{statement}
+use Rattle.journal.proofs.target_ok.Tie as tie
+
+pub target-ok-spec : {M : Type 1} → statement M
+unfolding targetOk
+target-ok-spec =
+    tie.close
+    (tie.spec
+    (λ c. search ands)
+    (λ c. search needs)
+    (λ c. search needs)
+    (λ c. search ands)
+    (λ c. search ands))

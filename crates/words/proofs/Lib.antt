@@ -1,0 +1,2 @@
+-- Cond has the laws by which crates above go through nested tests.
+pub mod Cond
