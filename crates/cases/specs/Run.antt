@@ -15,10 +15,10 @@ use Rattle.model.specs.State.{fileOf, namesOf}
 use Rattle.model.specs.FileMap.{Call}
 use Rattle.model.specs.Power.{Power, held, cut, leaves}
 use Rattle.model.specs.Answer.{Answer, refused, done, mapAnswer}
-use Rattle.model.specs.Public.{format, fills, size, countFree}
+use Rattle.model.specs.Public.{format, fills, size, read, countFree}
 use Rattle.model.specs.Listing.{listingOf}
 use Rattle.cases.specs.Table as Table
-use Rattle.cases.specs.Table.{Step, formats, calls, cuts, Expected, isDone, refuses, Fact, wordIs, freeIs, namesAre, sizeIs, dataIs, logIs, prints, Row, table}
+use Rattle.cases.specs.Table.{Step, formats, calls, cuts, Expected, isDone, refuses, Fact, wordIs, freeIs, namesAre, sizeIs, dataIs, logIs, bytesAre, prints, Row, table}
 
 -- How volumes are held: as a Volume.
 pub record Holding (Volume : Type 0) : Type 0 where
@@ -31,7 +31,8 @@ pub record Holding (Volume : Type 0) : Type 0 where
   pub format : Volume → ℕ → ℕ → Answer Volume
   pub after : Power → Volume → List ℕ → Volume
 
--- Volumes as document 01 has them: bytes, of which each aligned 8 land whole. Blank memory is any bytes; here each is 255.
+-- Volumes as document 01 has them: bytes, of which each aligned 8 land whole. Blank memory may hold any bytes; here each is 255.
+-- Of any bytes, format is promised by the model (specs/Promises.antt, FormatDone).
 unfoldable pub asBytes : Holding (List ℕ)
 asBytes =
     record {
@@ -71,6 +72,7 @@ factHolds len m (namesAre n) = eqb (length (namesOf (view m) (m 0) (m 1) root)) 
 factHolds len m (sizeIs k n) = numberIs (size len m k) n
 factHolds len m (dataIs k ps) = sameList (valuesFrom (fileOf (view m) (m 0) (m 1) k .page) 0 (length ps)) ps
 factHolds len m (logIs k ps) = sameList (pages (view m) (m 0) (m 1) k) ps
+factHolds len m (bytesAre k o bs) = sameList (wordsOf (read len m k o (length bs))) bs
 factHolds len m (prints t) = sameList (listingOf len m) t
 
 module _ {Volume : Type 0} (H : Holding Volume) where

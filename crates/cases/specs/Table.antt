@@ -1,7 +1,7 @@
 -- Cases A to K of document 01, "Campsite examples", as rows of one table. A row is data: where it starts, what is called, what is expected.
-use Prim.Native.Nat.{ℕ}
+use Prim.Native.Nat.{ℕ, _+_, _%_}
 use mathlib.Core.List.{List, [], _∷_}
-use lib.ListN.{replicate}
+use Rattle.model.specs.Lists.{valuesFrom}
 use Rattle.model.specs.FileMap.{Call, create, unlink, rename, write, setSize, clean, recover}
 
 -- What a row does.
@@ -10,7 +10,7 @@ pub data Step : Type 0 where
   formats : (pages : ℕ) → (inodes : ℕ) → Step
   -- make a call on the volume that row `start` left; all its stores land
   calls : (start : ℕ) → (call : Call) → Step
-  -- make a call on the volume that row `start` left; it is cut in group g, of which the words `kept` land
+  -- make a call on the volume that row `start` left; it is cut in group g, counted from 0, of which the words `kept` land
   cuts : (start : ℕ) → (call : Call) → (g : ℕ) → (kept : List ℕ) → Step
 
 -- The answer that is expected: done, done with a count of words, or refused with a number.
@@ -29,6 +29,8 @@ pub data Fact : Type 0 where
   dataIs : (inode : ℕ) → (pages : List ℕ) → Fact
   -- the pages of an inode's log
   logIs : (inode : ℕ) → (pages : List ℕ) → Fact
+  -- what read lays in a buffer of as many bytes, from an offset on
+  bytesAre : (inode : ℕ) → (offset : ℕ) → (bytes : List ℕ) → Fact
   -- what volume-list prints
   prints : (text : List ℕ) → Fact
 
@@ -60,9 +62,9 @@ J = 10
 abbrev A1 : List ℕ
 A1 = 65 ∷ 49 ∷ []
 
--- n bytes to write; their values are free
+-- n bytes to write: 1, 2, 3 and so on up to 255, then again. Document 01 leaves their values open.
 abbrev bytes : ℕ → List ℕ
-bytes n = replicate n 7
+bytes n = valuesFrom (λ i. i % 255 + 1) 0 n
 
 -- "files 1 free 10" and "1 514 A1", each ended by a newline
 abbrev listingC : List ℕ
@@ -88,7 +90,7 @@ table =
       step = calls B (write 1 510 (bytes 4));
       answer = fills 280;
       facts =
-          dataIs 1 (3 ∷ 4 ∷ []) ∷ logIs 1 (5 ∷ []) ∷ wordIs 74 2624 ∷ sizeIs 1 514 ∷ freeIs 10 ∷ prints listingC ∷ [];
+          dataIs 1 (3 ∷ 4 ∷ []) ∷ logIs 1 (5 ∷ []) ∷ wordIs 74 2624 ∷ sizeIs 1 514 ∷ bytesAre 1 508 (0 ∷ 0 ∷ 1 ∷ 2 ∷ 3 ∷ 4 ∷ []) ∷ freeIs 10 ∷ prints listingC ∷ [];
     }
     -- D
     ∷ record {

@@ -18,7 +18,7 @@ use Rattle.model.specs.Log.{tailSlots}
 use Rattle.model.specs.State.{fileOf, namesOf, inodeOf}
 use Rattle.model.specs.Accept.{namesOk, viewOk, accepted}
 use Rattle.model.specs.FileMap.{Call, create, link, unlink, rename, write, setSize, clean, recover}
-use Rattle.model.specs.Stores.{Stores, nothing, oneWord, run, both, onlyIf, listed, storeList}
+use Rattle.model.specs.Stores.{Stores, oneWord, run, both, onlyIf, listed, storeList}
 use Rattle.model.specs.Calls.{layEntries, tailAfter, pagesFor, tailPages, pagesNeeded, Change, commitOne, journalPairs, targets, commitTogether, commit, Append, entriesOnly, logPagesBeside, dataStart, appended, freshPages, freshLog, prepared, newTail, release, invalidInode, createAppend, createGroups, linkAppend, linkGroups, unlinkAppend, unlinkGroups, sameInode, renameAppend, renameGroups, writeAppend, writeChecks, writeGroups, cutsPage, sizeAppend, sameSize, sizeGroups, cleanNames, cleanEntries, cleanPages, isEmptyLog, cleanGroups, oldValues, recoverGroups, checks, groups}
 use Rattle.model.specs.Promises.{mostWords}
 use Rattle.model.proofs.Tests.{by-bool, by-eq, by-lt, no, ands, cond-some, bit-le}
@@ -70,7 +70,7 @@ record AtMost (s : Stores) (n : ℕ) : Type 0 where
 most-less : {s : Stores} {a b : ℕ} → AtMost s a → a ≤ b → AtMost s b
 most-less m l = record { words = m .words; number = omega (arith, m .number); only = m .only }
 
-most-none : AtMost nothing 0
+most-none : AtMost (λ w. none) 0
 most-none = record { words = []; number = omega arith; only = only-none (λ w x. has w [] ≡ true) }
 
 most-word : (i x : ℕ) → AtMost (oneWord i x) 1

@@ -18,7 +18,7 @@ use Rattle.model.specs.Calls.{groups}
 use Rattle.model.specs.Public.{isVolume, isAccepted, volumeChecks, callChecks, fills}
 use Rattle.model.specs.FileMap.{Call}
 use Rattle.model.specs.Accept.{accepted}
-use Rattle.model.specs.Promises.{ascending, storable, ListFine, ListsFine}
+use Rattle.model.specs.Promises.{ascending, storable, NoneOutside, ListFine, ListsFine}
 use Rattle.model.proofs.Tests.{by-bool, ands}
 use Rattle.model.proofs.Words.{word-lt}
 use Rattle.model.proofs.Crash.Stores.{Each}
@@ -48,6 +48,15 @@ unfolding storeList storable
 list-storable W [] f = refl
 list-storable W (s ∷ gs) f = group-storable W s (fence ∷ 0 ∷ storeList W gs) (f .0) (list-storable W gs (f .1)) W 0
 
+-- what stores only inside the volume stores nothing past it
+none-outside : (W : ℕ) (gs : List Stores) → Fits W gs → NoneOutside W gs
+none-outside W [] f = tt
+none-outside W (s ∷ gs) f = (λ w h. go w h (s w) refl, none-outside W gs (f .1))
+  where
+    go : (w : ℕ) → W ≤ w → (o : Option ℕ) → s w ≡ o → o ≡ none
+    go w h none e = refl
+    go w h (some x) e = let b = f .0 w x e in absurd (omega arith)
+
 -- an answer that is done passed every check
 passed : {A : Type 0} (ts : Checks) (a b : A) → firstRefusal ts (done a) ≡ done b → Passed ts × (a ≡ b)
 passed [] a b e = (tt, cc)
@@ -72,6 +81,7 @@ lists-fine v b a c n list ws e =
       fits = let f = most-fits c in omega arith;
       groups-ascend = λ g. rising-ascends (group-rising (64 * m 0) short gs g);
       words-storable = list-storable (64 * m 0) gs (s .fits);
+      none-outside = none-outside (64 * m 0) gs (s .fits);
       indices-inside = list-pairs (64 * m 0) short gs;
       last-fence = list-ends (64 * m 0) gs;
       carried-out = carry-leaves v gs (drop (length (storeList (64 * m 0) gs)) list) is-volume;

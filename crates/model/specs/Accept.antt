@@ -1,4 +1,4 @@
--- Document 01, "An accepted volume". All but the journal's own words is read from the view.
+-- Document 01, "An accepted volume". P, N and the journal's own words are read as they stand, all else from the view.
 use Prim.Native.Nat.{ℕ, _+_, _-_, _*_, _/_, _%_}
 use mathlib.Core.Bool.{Bool, cond, _&&_, _||_, not}
 use mathlib.Core.List.{List}

@@ -15,7 +15,7 @@ use Rattle.model.specs.Log.{tailSlots}
 use Rattle.model.specs.State.{File, fileOf, fileByte, Names, namesOf, inodeOf, inodes}
 use Rattle.model.specs.Accept.{isValid, isFile, free}
 use Rattle.model.specs.FileMap.{Call, create, link, unlink, rename, write, setSize, clean, recover}
-use Rattle.model.specs.Stores.{Stores, nothing, oneWord, run, firstOf, both, onlyIf}
+use Rattle.model.specs.Stores.{Stores, oneWord, run, firstOf, both, onlyIf}
 use Rattle.model.specs.Answer.{Checks, badName, notThere, taken, longWrite, pastTheEnd, noInode, directoryFull, noSpace}
 
 -- Writing a log.
@@ -139,7 +139,7 @@ module _ (u : Mem) (P N : ℕ) where
 
   -- Names.
 
-  -- 5, 6, 7, 11
+  -- 6, 7, 11
   abbrev pub stands : ℕ → List ℕ → Bool
   stands d n = not (eqb (inodeOf (namesOf u P N d) n) 0)
 

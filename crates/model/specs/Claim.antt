@@ -78,6 +78,7 @@ Kept size v (e ∷ es) = Step v (volumeAfter size v e) e × Kept size (volumeAft
 
 -- The claim. "For every list of create, link, unlink, rename, write, set size, clean and recover calls, refused and cut ones included, from an
 -- accepted volume with its journal closed, wherever each cut falls and whichever unfenced stores it keeps".
+-- `size` is the size of the pieces that land whole: the demand is `ThirdDemand 8`.
 abbrev pub ThirdDemand : ℕ → Type 0
 ThirdDemand size =
     (v : List ℕ) → Bytes v → isAccepted v ≡ true → isOpen (word v) ≡ false → (es : History) → HistoryBytes es → Kept size v es

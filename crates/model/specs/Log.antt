@@ -14,8 +14,8 @@ onto p none = none
 onto p (some r) = some (p ∷ r)
 
 -- "the log runs from the head through the footers to just before the tail. The footer of the tail's page is not read."
--- The pages from p to the tail's page q; none where the walk leaves the log and data pages or takes more than n steps.
--- A walk of P steps that has not ended never will: it stands on a page for the second time.
+-- The pages from p to the tail's page q; none where the walk leaves the log and data pages or has more than n pages.
+-- A walk of P pages that has not ended never will: it stands on a page for the second time.
 unfoldable pub walk : Mem → ℕ → ℕ → ℕ → ℕ → ℕ → Option (List ℕ)
 walk m P N zero p q = none
 walk m P N (suc n) p q =

@@ -6,7 +6,7 @@ use mathlib.Core.List.{List, [], _∷_, _++_}
 use lib.Dec.{eqb}
 use Rattle.model.specs.Stores.{fence, carried}
 
--- the words of a list before its g-th fence, and those between that fence and the next: the groups before group g, and group g
+-- Groups count from 0. The words of the groups before group g, each with the fence that ends it; and the words of group g, without its fence.
 unfoldable pub before : ℕ → List ℕ → List ℕ
 before zero l = []
 before (suc g) [] = []

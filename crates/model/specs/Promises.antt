@@ -1,8 +1,8 @@
 -- What else is promised: corollaries of the third demand, the shape of every store list, format, and the reading calls in terms of the file map.
-use Prim.Native.Nat.{ℕ, _+_, _-_, _*_, _%_, _^_, _≤_, _<_}
+use Prim.Native.Nat.{ℕ, _+_, _-_, _*_, _^_, _≤_}
 use mathlib.Core.Path.{_≡_}
 use mathlib.Core.Logic.{_⊎_}
-use mathlib.Core.Bool.{Bool, true, false, cond, _&&_, _||_}
+use mathlib.Core.Bool.{Bool, true, false, cond, _&&_}
 use mathlib.Core.List.{List, [], _∷_}
 use mathlib.Core.Option.{Option, none, some}
 use lib.ListN.{length, take, drop, getD}
@@ -13,10 +13,11 @@ use Rattle.model.specs.Journal.{isOpen}
 use Rattle.model.specs.Entry.{nameOk, padded}
 use Rattle.model.specs.State.{inodeOf}
 use Rattle.model.specs.FileMap.{FileMap, mapAfter, Call, create, link, unlink, rename, write, setSize, clean, recover}
-use Rattle.model.specs.Stores.{fence}
+use Rattle.model.specs.Stores.{Stores}
 use Rattle.model.specs.Power.{Power, held, cut, group, leaves}
-use Rattle.model.specs.Answer.{Answer, refused, done, Nothing, notThere, filledFrom}
-use Rattle.model.specs.Public.{isAccepted, fills, callList, formatAnswer, formatVolume, pairsOk, endsInFence, carryOut, findAnswer, sizeAnswer, readAnswer, readBuffer, kthNameAnswer, kthNameBuffer, freeAnswer}
+use Rattle.model.specs.Answer.{Answer, refused, done, notThere, filledFrom}
+use Rattle.model.specs.Calls.{groups}
+use Rattle.model.specs.Public.{isAccepted, fills, formatAnswer, formatVolume, pairsOk, endsInFence, carryOut, findAnswer, sizeAnswer, readAnswer, readBuffer, kthNameAnswer, kthNameBuffer, freeAnswer}
 use Rattle.model.specs.Claim.{Bytes, CallBytes, Event, History, HistoryBytes, answerTo, volumeAfter, mapIn}
 
 -- Below, pieces of 8 bytes land whole.
@@ -89,12 +90,18 @@ mostWords (setSize k s) = 168
 mostWords (clean k) = 3670
 mostWords recover = 14
 
+-- no group stores past the volume, so that its text leaves no store out
+abbrev pub NoneOutside : ℕ → List Stores → Type 0
+NoneOutside words [] = Unit {0}
+NoneOutside words (s ∷ ss) = ((w : ℕ) → words ≤ w → s w ≡ none) × NoneOutside words ss
+
 -- what holds of the words ws that call c fills on the volume v into the lent list
 pub record ListFine (c : Call) (v ws list : List ℕ) : Type 0 where
   pub short : length ws ≤ mostWords c
   pub fits : length ws ≤ listWords
   pub groups-ascend : (g : ℕ) → ascending 0 (group g ws) ≡ true
   pub words-storable : storable ws ≡ true
+  pub none-outside : NoneOutside (64 * word v 0) (groups (word v) (word v 0) (word v 1) c)
   pub indices-inside : pairsOk (64 * word v 0) ws ≡ true
   pub last-fence : endsInFence ws ≡ true
   -- "Landed whole, a list leaves what carry out leaves."

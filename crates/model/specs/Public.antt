@@ -1,5 +1,5 @@
 -- The fifteen calls, for all bytes and numbers: the answer, and each byte of lent memory afterwards.
--- v are the bytes of the lent volume before the call. A reading call leaves them; a changing call other than format leaves them too.
+-- v are the bytes of the lent volume before the call. Format and carry out may change them; every other call leaves them.
 use Prim.Native.Nat.{ℕ, zero, suc, _+_, _-_, _*_, _/_, _%_, min}
 use mathlib.Core.Bool.{Bool, true, false, cond, _&&_, _||_, not}
 use mathlib.Core.List.{List, [], _∷_, _++_}

@@ -11,9 +11,6 @@ use Rattle.model.specs.Words.{Mem, putWord}
 abbrev pub Stores : Type 0
 Stores = ℕ → Option ℕ
 
-abbrev pub nothing : Stores
-nothing w = none
-
 -- x in word i
 unfoldable pub oneWord : ℕ → ℕ → Stores
 oneWord i x w = cond (eqb w i) (some x) none

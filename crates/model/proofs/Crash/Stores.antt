@@ -9,7 +9,7 @@ use lib.Dec.{leb, ltb, eqb}
 use borrow.Author.Tests.{ltb-true, leb-true, eqb-true, eq-eqb, ne-eqb}
 use Rattle.model.specs.Lists.{orElse}
 use Rattle.model.specs.Words.{Mem}
-use Rattle.model.specs.Stores.{Stores, nothing, oneWord, run, firstOf, both, onlyIf, over}
+use Rattle.model.specs.Stores.{Stores, oneWord, run, firstOf, both, onlyIf, over}
 use Rattle.model.proofs.Tests.{by-bool, by-eq, not-some, cond-some, ands}
 
 -- A memory after a group.
@@ -89,7 +89,7 @@ abbrev pub Only : (ℕ → Type 0) → Stores → Type 0
 Only Q s = (w x : ℕ) → s w ≡ some x → Q w
 
 module _ (R : ℕ → ℕ → Type 0) where
-  pub only-none : Each R nothing
+  pub only-none : Each R (λ w. none)
   only-none w x e = not-some x e
 
   pub only-word : (t y : ℕ) → R t y → Each R (oneWord t y)
