@@ -1,0 +1,6 @@
+-- Runs, Entries, Folding, States and Ends have the cases of this crate's functions.
+mod Runs
+mod Entries
+mod Folding
+mod States
+mod Ends

@@ -1,0 +1,256 @@
+// A file's state from its log: its size, and the data page of each of its 128 file pages, in a table; 0 is an unmapped
+// page. And whether a file ends as an accepted volume has it. v is the volume, k an inode other than the directory.
+ghost use mathlib.Core.Path.{_≡_};
+ghost use mathlib.Core.Bool.{true};
+ghost use Prim.Native.Nat.{_+_, _-_, _*_, _/_, _≤_, _<_};
+ghost use lib.ListN.{length, set, replicate, getD};
+ghost use Rattle.model.specs.Words.{word};
+ghost use Rattle.model.specs.Journal.{view};
+ghost use Rattle.model.specs.Entry.{writeEntry, fileEntryOk};
+ghost use Rattle.model.specs.State.{fileOf};
+ghost use Rattle.model.specs.Accept.{logOk, endOk};
+ghost use Rattle.log.specs.Ready.{Ready};
+ghost use Rattle.log.specs.Steps.{entriesFrom, within};
+ghost use Rattle.files.specs.State.{fileFrom, filled, nameless, Applied, Folds, FoldsOver, startsOk, zerosAt};
+
+// What a log comes to: the file's size, its pages being in the lent table, or that no file has such a log.
+pub enum Folded {
+    Size(u64),
+    Bad,
+}
+
+// Stores x in element i of the table. Answers nothing.
+// Example: put(table, 3, 70) maps file page 3 to data page 70.
+fn put(table: &mut [u64; 128], i: usize, x: u64)
+    requires { ⌜ i < 128 ⌝ }
+    ensures { λ _. ⌜ now (table .exit) ≡ set (now (table .entry)) i x ⌝ }
+{
+    table[i] = x;
+}
+
+// Answers the data page that the table has for a file page, or 0 where that is unmapped.
+// Example: after put(table, 3, 70) get(table, 3) is 70.
+pub fn get(table: &[u64; 128], file: usize) -> u64
+    requires { ⌜ file < 128 ⌝ }
+    ensures { λ r. ⌜ r ≡ getD (now (table .entry)) file 0 ⌝ }
+{
+    table[file]
+}
+
+// Maps the file pages from file on to count data pages from page on. Answers nothing.
+// Example: map_run(table, 3, 70, 2) makes element 3 a 70 and element 4 a 71.
+fn map_run(table: &mut [u64; 128], file: usize, page: u64, count: usize)
+    requires { ⌜ (file + count ≤ 128) × (page + count ≤ 4096) ⌝ }
+    ensures { λ _. ⌜ now (table .exit) ≡ filled (λ i. page + (i - file)) (now (table .entry)) file count ⌝ }
+{
+    let mut i = file;
+    let mut d = page;
+    let mut left = count;
+    while 0 < left {
+        put(table, i, d);
+        i = i + 1;
+        d = d + 1;
+        left = left - 1;
+    }
+}
+
+// Unmaps the file pages from file on. Answers nothing.
+// Example: unmap_from(table, 126) makes elements 126 and 127 zeros.
+fn unmap_from(table: &mut [u64; 128], file: usize)
+    requires { ⌜ file ≤ 128 ⌝ }
+    ensures { λ _. ⌜ now (table .exit) ≡ filled (λ i. 0) (now (table .entry)) file (128 - file) ⌝ }
+{
+    let mut i = file;
+    let mut left = 128 - file;
+    while 0 < left {
+        put(table, i, 0);
+        i = i + 1;
+        left = left - 1;
+    }
+}
+
+// Answers whether a file's log may hold this write: "Write counts are 1 to 128, file pages end at or below 128, data
+// pages lie in T+1 to P−1", and the size is at most 65,536.
+// Example: with 64 pages and 8 inodes run_ok(126, 62, 2, 65536, 64, 8) is true, and run_ok(126, 62, 3, 65536, 64, 8) is false.
+fn run_ok(file: u64, page: u64, count: u64, size: u64, pages: u64, inodes: u64) -> bool
+    ensures { λ r. ⌜ r ≡ fileEntryOk pages inodes (writeEntry file page count size) ⌝ }
+{
+    if count < 1 {
+        return false;
+    }
+    if 128 < count {
+        return false;
+    }
+    if 128 < file {
+        return false;
+    }
+    if 128 < file + count {
+        return false;
+    }
+    if page <= inodes / 8 {
+        return false;
+    }
+    if pages < page {
+        return false;
+    }
+    if pages - page < count {
+        return false;
+    }
+    size <= 65536
+}
+
+// Answers whether a file's log may hold an entry.
+// Example: entry_ok(log::Entry::SetSize(65536), 64, 8) is true, and entry_ok(log::Entry::Remove(3), 64, 8) is false.
+fn entry_ok(e: log::Entry, pages: usize, inodes: usize) -> bool
+    ensures { λ r. ⌜ r ≡ fileEntryOk pages inodes (nameless e) ⌝ }
+{
+    match e {
+        log::Entry::Write {
+            file,
+            page,
+            count,
+            size,
+        } => run_ok(file, page, count, size, pages as u64, inodes as u64),
+        log::Entry::SetSize(size) => size <= 65536,
+        log::Entry::Add { inode, len } => false,
+        log::Entry::Remove(len) => false,
+        log::Entry::None => false,
+    }
+}
+
+// Does to the table what an entry says, and answers the size after it. The entry is one that the log of a file may hold,
+// on a volume of the most pages.
+// Example: apply(log::Entry::SetSize(700), 1536, table) unmaps the file pages from 2 on and answers 700.
+fn apply(e: log::Entry, size: u64, table: &mut [u64; 128]) -> u64
+    requires { ⌜ (fileEntryOk 4096 0 (nameless e) ≡ true) × (length (now table) ≡ 128) ⌝ }
+    ensures { λ r. ⌜ Applied size (now (table .entry)) e r (now (table .exit)) ⌝ }
+{
+    match e {
+        log::Entry::Write {
+            file,
+            page,
+            count,
+            size: end,
+        } => {
+            map_run(table, file as usize, page, count as usize);
+            end
+        }
+        log::Entry::SetSize(end) => {
+            let from = (end + 511) / 512;
+            unmap_from(table, from as usize);
+            end
+        }
+        log::Entry::Add { inode, len } => size,
+        log::Entry::Remove(len) => size,
+        log::Entry::None => size,
+    }
+}
+
+// Does to the table what the entries from a cursor up to a log's end say, and answers the size after them, or Bad where
+// one of them is none that a file's log may hold.
+// Example: where a set size of 700 stands at word 640, fold_file(v, log::Cursor { at: 640 }, 648, 64, 8, table) is Folded::Size(700).
+fn fold_file(
+    v: &[u8],
+    from: log::Cursor,
+    end: usize,
+    pages: usize,
+    inodes: usize,
+    table: &mut [u64; 128],
+) -> Folded
+    requires { ⌜ (within (7 * pages) (word (now v)) pages (from .at) end ≡ true)
+        × (512 * pages ≤ length (now v)) × (pages ≤ 4096) × (length (now table) ≡ 128) ⌝ }
+    ensures { λ r. ⌜ FoldsOver pages inodes (entriesFrom (7 * pages) (word (now (v .entry))) (from .at) end) (now (table .entry)) r (now (table .exit)) ⌝ }
+{
+    let mut c = from;
+    let mut size: u64 = 0;
+    let mut left = 7 * pages;
+    while 0 < left {
+        let at = c.at;
+        if at == end {
+            return Folded::Size(size);
+        }
+        let s = log::log_step(v, c);
+        let e = s.entry;
+        if !entry_ok(e, pages, inodes) {
+            return Folded::Bad;
+        }
+        size = apply(e, size, table);
+        c = s.next;
+        left = left - 1;
+    }
+    Folded::Size(size)
+}
+
+// Reads the log of file k into a table of zeros, and answers the file's size, or Bad where the log is not as an accepted
+// volume has it.
+// Example: where the tail of inode 3 is 0, file_state(v, 3, 64, 8, table) is Folded::Size(0) and leaves the table.
+pub fn file_state(v: &[u8], k: usize, pages: usize, inodes: usize, table: &mut [u64; 128]) -> Folded
+    requires { ⌜ Ready (word (now v)) (length (now v)) pages inodes × (0 < k) × (k < inodes) × (now table ≡ replicate 128 0) ⌝ }
+    ensures { λ r. ⌜ Folds (logOk (view (word (now (v .entry)))) pages inodes k)
+        (fileOf (view (word (now (v .entry)))) pages inodes k) r (now (table .exit)) ⌝ }
+{
+    let head = journal::viewed(v, 65 + 8 * k) as usize;
+    let tail = journal::viewed(v, 66 + 8 * k) as usize;
+    if !log::log_found(v, head, tail, pages, inodes) {
+        return Folded::Bad;
+    }
+    let from = log::log_start(head, tail);
+    fold_file(v, from, tail / 8, pages, inodes, table)
+}
+
+// Answers whether every mapped page starts below the size.
+// Example: where elements 0 and 1 alone are not 0, starts_ok(table, 513) is true and starts_ok(table, 512) is false.
+fn starts_ok(table: &[u64; 128], size: usize) -> bool
+    ensures { λ r. ⌜ r ≡ startsOk (now (table .entry)) size 128 ⌝ }
+{
+    let mut n: usize = 128;
+    while 0 < n {
+        n = n - 1;
+        let d = get(table, n);
+        if d != 0 {
+            if size <= 512 * n {
+                return false;
+            }
+        }
+    }
+    true
+}
+
+// Answers whether count bytes from byte b on are zero.
+// Example: of the bytes 1, 0, 0, 7 zeros_at(v, 1, 2) is true and zeros_at(v, 1, 3) is false.
+fn zeros_at(v: &[u8], b: usize, count: usize) -> bool
+    requires { ⌜ b + count ≤ length (now v) ⌝ }
+    ensures { λ r. ⌜ r ≡ zerosAt (word (now (v .entry))) b count ⌝ }
+{
+    let mut n = count;
+    while 0 < n {
+        n = n - 1;
+        let x = words::byte_at(v, b + n);
+        if x != 0 {
+            return false;
+        }
+    }
+    true
+}
+
+// Answers whether a file ends as an accepted volume has it: "no mapped page starts at or after the size, and a mapped
+// page holding the size is zero from there on".
+// Example: where file page 1 alone is mapped, end_ok(v, table, 700) tells whether its bytes 188 to 511 are zeros.
+pub fn end_ok(v: &[u8], table: &[u64; 128], size: usize) -> bool
+    requires { ⌜ (size ≤ 65536) × (512 * getD (now table) (size / 512) 0 + 512 ≤ length (now v)) ⌝ }
+    ensures { λ r. ⌜ r ≡ endOk (word (now (v .entry))) (fileFrom size (now (table .entry))) ⌝ }
+{
+    if !starts_ok(table, size) {
+        return false;
+    }
+    let o = size % 512;
+    if o == 0 {
+        return true;
+    }
+    let i = size / 512;
+    let d = get(table, i) as usize;
+    if d == 0 {
+        return true;
+    }
+    zeros_at(v, 512 * d + o, 512 - o)
+}

@@ -1,0 +1,2 @@
+-- Cases has the cases of this crate's functions.
+mod Cases

@@ -1,0 +1,202 @@
+-- The cases of the functions that judge one inode: what they read from the raw memory is what the view has, and a chain of
+-- judgements and marks is one judgement.
+use Prim.Native.Nat.{ℕ, zero, suc, _+_, _*_, _/_, _≤_, _<_}
+use mathlib.Core.Path.{_≡_, refl, sym, _∙_, ap, subst}
+use mathlib.Core.Logic.{⊎-elim}
+use mathlib.Core.Bool.{Bool, true, false, not, _&&_}
+use mathlib.Core.List.{List, [], append-nil}
+use mathlib.Core.Option.{none}
+use native.Mathlib.Omega.{arith}
+use lib.ListN.{getD}
+use lib.Dec.{leb}
+use borrow.Author.Tests.{lt-leb, eq-eqb, ne-eqb, not-true, not-false}
+use Rattle.model.specs.Lists.{all, isSome, orElse}
+use Rattle.model.specs.Words.{Mem}
+use Rattle.model.specs.Layout.{validWord, headWord, tailWord, inPages, root, filePages}
+use Rattle.model.specs.Journal.{view}
+use Rattle.model.specs.Log.{walk, tailOk, pagesOf, logPages, entries, pages as pagesOfInode}
+use Rattle.model.specs.State.{File, fileOf}
+use Rattle.model.specs.Accept.{logOk, endOk, validOk, inodeOk}
+use Rattle.model.proofs.Tests.{by-bool, by-eq, no, ands}
+use Rattle.model.proofs.Frame.Placed.{Placed, in-bounds}
+use Rattle.model.proofs.Frame.Inode.{file-placed}
+use Rattle.model.proofs.State.Bytes.{kept-end, small-file}
+use Rattle.journal.proofs.Views.{view-raw}
+use Rattle.log.specs.Ready.{Ready}
+use Rattle.log.proofs.Viewed.{inode-pages}
+use Rattle.files.specs.State.{fileFrom, Folds}
+use Rattle.files.specs.declared.Folded.{Folded}
+use Rattle.files.specs.declared.Folded.the-variants.{Size, Bad}
+use Rattle.marks.specs.Marks.{fresh, marked, mapped, mappedBy, usedBy, Marked}
+use Rattle.marks.proofs.Counts.{fresh-append, marked-append}
+use Rattle.inodes.specs.Judged.{Judged, EndJudged, FileJudged, InodeJudged}
+
+-- The answer no.
+
+refused : (ok : Bool) (a ps b : List ℕ) → ok && fresh a ps ≡ false → Judged ok a ps false b
+refused ok a ps b e = record { answer = sym e; list = λ y. no y }
+
+pub bad : (ok : Bool) (a ps b : List ℕ) → ok ≡ false → Judged ok a ps false b
+bad ok a ps b e = refused ok a ps b (rw e)
+
+pub marked-before : (ok : Bool) (a ps b : List ℕ) → fresh a ps ≡ false → Judged ok a ps false b
+marked-before ok a ps b e = refused ok a ps b (by-bool ok (λ h. rw (h, e)) (λ h. rw h))
+
+-- The log pages of inode k: t is the tail and h the head that the code read.
+
+module _ (m : Mem) (L P N k t : ℕ) (ready : Ready m L P N) (i : t ≡ view m (tailWord k)) where
+  pub no-pages : (u : List ℕ) → t ≡ 0 → Marked u (pagesOfInode (view m) P N k) true u
+  unfolding pagesOfInode logPages pagesOf fresh marked
+  no-pages u z = let e : view m (tailWord k) ≡ 0 = sym i ∙ z in record { answer = rw e; list = λ _. rw e }
+
+  module _ (h : ℕ) (g : h ≡ view m (headWord k)) (z : t ≡ 0 → ⊥) (s : isSome (logPages (view m) P N k) ≡ true) where
+    raw-pages : pagesOf m P N h t ≡ logPages (view m) P N k
+    raw-pages = rw (g, i) (inode-pages m P N (ready .eight) (ready .journal) k)
+
+    raw-walk : walk m P N P h (t / 512) ≡ logPages (view m) P N k
+    unfolding pagesOf
+    raw-walk =
+        by-bool (tailOk t) (λ y. rw (ne-eqb t 0 z, y) at raw-pages)
+        (λ y. let n : none ≡ logPages (view m) P N k = rw (ne-eqb t 0 z, y) at raw-pages in no (rw (← n) at s))
+
+    pub walk-ends : isSome (walk m P N P h (t / 512)) ≡ true
+    walk-ends = rw raw-walk s
+
+    pub walk-pages : (u v : List ℕ) (r : Bool) → Marked u (orElse (walk m P N P h (t / 512)) []) r v → Marked u (pagesOfInode (view m) P N k) r v
+    unfolding pagesOfInode
+    walk-pages u v r x = rw raw-walk at x
+
+pub log-some : (u : Mem) (P N k : ℕ) → logOk u P N k ≡ true → isSome (logPages u P N k) ≡ true
+unfolding logOk
+log-some u P N k ok = search ands
+
+-- what holds of every data page holds of all of them
+pub mapped-all : (f : ℕ → ℕ) (g : ℕ → Bool) → ((i : ℕ) → (f i ≡ 0 → ⊥) → g (f i) ≡ true) → (n i : ℕ) → all g (mappedBy f i n) ≡ true
+unfolding mappedBy all
+mapped-all f g h zero i = refl
+mapped-all f g h (suc n) i =
+    by-eq (f i) 0 (λ z. rw (mappedBy, eq-eqb (f i) 0 z) (mapped-all f g h n (i + 1)))
+    (λ z. rw (mappedBy, ne-eqb (f i) 0 z, all, h i z) (mapped-all f g h n (i + 1)))
+
+-- File k, whose log is good: s is its size and t the table of its data pages.
+
+module _ (m : Mem) (L P N k s : ℕ) (t : List ℕ) (ready : Ready m L P N) (kp : 0 < k) (ok : logOk (view m) P N k ≡ true)
+    (f : fileFrom s t ≡ fileOf (view m) P N k) where
+  set-down : Placed P N (fileFrom s t)
+  set-down = subst (λ (g : File). Placed P N g) (sym f) (file-placed (view m) P N k ok (omega arith))
+
+  page-inside : (i : ℕ) → (getD t i 0 ≡ 0 → ⊥) → inPages P N (getD t i 0) ≡ true
+  page-inside i z = ⊎-elim (λ e. absurd (z e)) (λ h. h .1) (set-down i)
+
+  pub end-size : s ≤ 65536
+  unfolding logOk fileOf
+  end-size =
+      let h = rw (ne-eqb k 0 (omega arith)) at ok in
+      let e : s ≡ fileOf (view m) P N k .size = ap (λ (g : File). g .size) f in
+      rw e (small-file P N (entries (view m) P N k) (search ands))
+
+  pub end-room : 512 * getD t (s / 512) 0 + 512 ≤ L
+  end-room =
+      let a = ready .bytes in
+      let b = ready .room in
+      by-eq (getD t (s / 512) 0) 0 (λ z. rw z (omega arith))
+      (λ z. let i = in-bounds P N (getD t (s / 512) 0) (page-inside (s / 512) z) in omega arith)
+
+  pub table-in : all (inPages P N) (mapped t 0 128) ≡ true
+  unfolding mapped
+  table-in = mapped-all (λ j. getD t j 0) (inPages P N) page-inside 128 0
+
+  -- the data pages lie past the inode table, where the raw memory has the words of the view
+  end-is : endOk m (fileFrom s t) ≡ endOk (view m) (fileOf (view m) P N k)
+  end-is =
+      let e = ready .eight in
+      kept-end (view m) m (fileFrom s t)
+      (λ i o l z.
+      let b = in-bounds P N (getD t i 0) (page-inside i z) in
+      sym (view-raw m N (64 * getD t i 0 + o) (ready .journal) (omega arith)))
+      ∙ ap (endOk (view m)) f
+
+  mapped-is : mapped t 0 128 ≡ mappedBy (fileOf (view m) P N k .page) 0 filePages
+  unfolding mapped
+  mapped-is = ap (λ (g : File). mappedBy (g .page) 0 128) f
+
+  module _ (r : Bool) (e : r ≡ endOk m (fileFrom s t)) where
+    pub end-not : (a ps b : List ℕ) → not r ≡ true → Judged (endOk (view m) (fileOf (view m) P N k)) a ps false b
+    end-not a ps b n = bad _ a ps b (sym end-is ∙ sym e ∙ not-true r n)
+
+    module _ (n : not r ≡ false) (a b : List ℕ) (q : Bool) (x : Marked a (pagesOfInode (view m) P N k) q b) where
+      pub log-not : not q ≡ true → EndJudged (view m) P N k a false b
+      log-not y = marked-before _ a _ b (rw (fresh-append, sym (x .answer) ∙ not-true q y))
+
+      pub table-is : (o : Bool) (c : List ℕ) → not q ≡ false → Marked b (mapped t 0 128) o c → EndJudged (view m) P N k a o c
+      table-is o c y g =
+          let z : q ≡ true = not-false q y in
+          record {
+            answer = rw (sym end-is ∙ sym e ∙ not-false r n, fresh-append, sym (x .answer) ∙ z, ← x .list z, ← mapped-is) (g .answer);
+            list = λ w. rw (marked-append, ← x .list z, ← mapped-is) (g .list w);
+          }
+
+-- A file by what `file_state` answered, x, and the table t that it left; g is the file, and ok whether its log is good.
+
+module _ (ok : Bool) (g : File) (x : Folded) (t : List ℕ) (f : Folds ok g x t) where
+  state-bad : x ≡ Bad → ok ≡ false
+  state-bad e =
+      by-bool ok
+      (λ y. let z : Size (g .size) ≡ Bad = sym (rw y at (f .answer)) ∙ e in let w : _≡_ {A = ℕ} 0 1 = cc in absurd (omega arith))
+      (λ y. y)
+
+  pub state-good : (s : ℕ) → x ≡ Size s → ok ≡ true
+  state-good s e =
+      by-bool ok (λ y. y)
+      (λ y. let z : Bad ≡ Size s = sym (rw y at (f .answer)) ∙ e in let w : _≡_ {A = ℕ} 0 1 = cc in absurd (omega arith))
+
+  pub state-file : (s : ℕ) → x ≡ Size s → fileFrom s t ≡ g
+  state-file s e =
+      let o = state-good s e in
+      let z : Size (g .size) ≡ Size s = sym (rw o at (f .answer)) ∙ e in
+      let w : g .size ≡ s = cc in
+      ap (λ (n : ℕ). fileFrom n t) (sym w) ∙ f .file o
+
+  pub file-bad : (e : Bool) (a ps : List ℕ) → x ≡ Bad → Judged (ok && e) a ps false a
+  file-bad e a ps y = bad (ok && e) a ps a (rw (state-bad y))
+
+  pub file-good : (s : ℕ) (e : Bool) (a ps b : List ℕ) (r : Bool) → x ≡ Size s → Judged e a ps r b → Judged (ok && e) a ps r b
+  file-good s e a ps b r y j = record { answer = rw (state-good s y) (j .answer); list = j .list }
+
+-- Inode k, not the directory's: v is its valid word.
+
+module _ (m : Mem) (P N k v : ℕ) (kp : 0 < k) (i : v ≡ view m (validWord k)) where
+  pub inode-free : (a : List ℕ) → v ≡ 0 → InodeJudged (view m) P N k a true a
+  unfolding inodeOk validOk usedBy fresh marked
+  inode-free a z =
+      let e : view m (validWord k) ≡ 0 = sym i ∙ z in
+      record { answer = rw (e, ne-eqb k 0 (omega arith)); list = λ _. rw e }
+
+  pub inode-file : (a b : List ℕ) (r : Bool) → v ≡ 1 → FileJudged (view m) P N k a r b → InodeJudged (view m) P N k a r b
+  unfolding inodeOk validOk usedBy
+  inode-file a b r z j =
+      let e : view m (validWord k) ≡ 1 = sym i ∙ z in
+      record {
+        answer = rw (inodeOk, validOk, usedBy, e, ne-eqb k 0 (omega arith)) (j .answer);
+        list = λ y. rw (usedBy, e, ne-eqb k 0 (omega arith)) (j .list y);
+      }
+
+  pub inode-bad : (a ps : List ℕ) → (v ≡ 0 → ⊥) → (v ≡ 1 → ⊥) → Judged (inodeOk (view m) P N k) a ps false a
+  unfolding inodeOk validOk
+  inode-bad a ps y z =
+      let g : leb (view m (validWord k)) 1 ≡ false = rw (← i) (lt-leb v 1 (omega arith)) in
+      bad _ a ps a (rw (inodeOk, validOk, ne-eqb k 0 (omega arith), g))
+
+-- The directory's inode: v is its valid word.
+
+module _ (m : Mem) (P N v : ℕ) (i : v ≡ view m 64) where
+  pub root-bad : (a ps : List ℕ) → (v ≡ 1 → ⊥) → Judged (inodeOk (view m) P N root) a ps false a
+  unfolding inodeOk validOk
+  root-bad a ps z = bad _ a ps a (rw (inodeOk, validOk, ne-eqb (view m 64) 1 (λ y. z (i ∙ y))))
+
+  pub root-is : (a b : List ℕ) (r : Bool) → v ≡ 1 → logOk (view m) P N root ≡ true → Marked a (pagesOfInode (view m) P N root) r b
+      → InodeJudged (view m) P N root a r b
+  unfolding inodeOk validOk usedBy
+  root-is a b r z g j =
+      let e : view m 64 ≡ 1 = sym i ∙ z in
+      record { answer = rw (e, g, append-nil) (j .answer); list = λ y. rw (e, append-nil) (j .list y) }

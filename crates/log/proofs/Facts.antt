@@ -1,0 +1,137 @@
+-- The cases of the functions' answers: each kind of an entry, each turn of the walk, each way in which a log starts.
+use Prim.Native.Nat.{ℕ, zero, suc, _+_, _*_, _-_, _/_, _%_, _≤_, _<_}
+use mathlib.Core.Path.{_≡_, refl, sym, _∙_, ap}
+use mathlib.Core.Bool.{Bool, true, false}
+use mathlib.Core.List.{List}
+use mathlib.Core.Option.{Option, none, some}
+use native.Mathlib.Omega.{arith}
+use native.Mathlib.Numerals.{sub-one}
+use native.Mathlib.Nat.{le-refl, zero-add}
+use mir.Val.{Fits}
+use mir.Syntax.{w64}
+use lib.ListN.{length, take, drop, length-drop}
+use lib.Seq.{take-all}
+use borrow.Author.Tests.{eq-eqb, ne-eqb, lt-ltb, le-ltb}
+use Rattle.model.specs.Lists.{isSome}
+use Rattle.model.specs.Words.{Mem, word}
+use Rattle.model.specs.Layout.{inPages}
+use Rattle.model.specs.Entry.{entryAt}
+use Rattle.model.specs.Log.{walk, onto, tailOk, pagesOf}
+use Rattle.model.proofs.Tests.{not-true-false}
+use Rattle.model.proofs.Words.{word-drop}
+use Rattle.model.proofs.Log.Decode.{entry-same}
+use Rattle.model.proofs.Log.Extend.{tail-ok, tail-slots}
+use Rattle.log.specs.Steps.{short, landing, stepAt, startOf}
+use Rattle.log.specs.declared.Entry.{Entry}
+use Rattle.log.specs.declared.Entry.the-variants.{Write, SetSize, Add, Remove, None}
+
+-- the entry reader
+module _ (m : Mem) (k : ℕ) (h : k ≡ m 0) where
+  pub is-write : (a b d e : ℕ) → k ≡ 1 → a ≡ m 1 → b ≡ m 2 → d ≡ m 3 → e ≡ m 4 → Write a b d e ≡ short (entryAt m 0)
+  unfolding entryAt short
+  is-write a b d e t f g i j = rw (entryAt, eq-eqb (m 0) 1 (sym h ∙ t), f, g, i, j)
+
+  pub is-size : (a : ℕ) → (k ≡ 1 → ⊥) → k ≡ 2 → a ≡ m 1 → SetSize a ≡ short (entryAt m 0)
+  unfolding entryAt short
+  is-size a n t f = rw (entryAt, eq-eqb (m 0) 2 (sym h ∙ t), ne-eqb (m 0) 1 (λ q. n (h ∙ q)), f)
+
+  pub is-add : (a b : ℕ) → (k ≡ 1 → ⊥) → (k ≡ 2 → ⊥) → k ≡ 3 → a ≡ m 1 → b ≡ m 2 → Add a b ≡ short (entryAt m 0)
+  unfolding entryAt short
+  is-add a b n o t f g = rw (entryAt, eq-eqb (m 0) 3 (sym h ∙ t), ne-eqb (m 0) 1 (λ q. n (h ∙ q)), ne-eqb (m 0) 2 (λ q. o (h ∙ q)), f, g)
+
+  pub is-remove : (b : ℕ) → (k ≡ 1 → ⊥) → (k ≡ 2 → ⊥) → (k ≡ 3 → ⊥) → k ≡ 4 → b ≡ m 2 → Remove b ≡ short (entryAt m 0)
+  unfolding entryAt short
+  is-remove b n o p t g =
+      rw (entryAt, eq-eqb (m 0) 4 (sym h ∙ t), ne-eqb (m 0) 1 (λ q. n (h ∙ q)), ne-eqb (m 0) 2 (λ q. o (h ∙ q)), ne-eqb (m 0) 3 (λ q. p (h ∙ q)), g)
+
+  pub is-none : (k ≡ 1 → ⊥) → (k ≡ 2 → ⊥) → (k ≡ 3 → ⊥) → (k ≡ 4 → ⊥) → None ≡ short (entryAt m 0)
+  unfolding entryAt short
+  is-none n o p s =
+      rw (entryAt, ne-eqb (m 0) 1 (λ q. n (h ∙ q)), ne-eqb (m 0) 2 (λ q. o (h ∙ q)), ne-eqb (m 0) 3 (λ q. p (h ∙ q)), ne-eqb (m 0) 4 (λ q. s (h ∙ q)))
+
+-- the step
+pub landed-next : (m : Mem) (at x : ℕ) → at % 64 ≡ 56 → x ≡ m at → 64 * x ≡ landing m at
+unfolding landing
+landed-next m at x t e = rw (eq-eqb (at % 64) 56 t, e)
+
+pub landed-here : (m : Mem) (at : ℕ) → (at % 64 ≡ 56 → ⊥) → at ≡ landing m at
+unfolding landing
+landed-here m at t = rw (ne-eqb (at % 64) 56 t)
+
+pub landed-fits : (m : Mem) (at x : ℕ) → landing m at < 262144 → at % 64 ≡ 56 → x ≡ m at → Fits w64 (64 * x)
+landed-fits m at x h t e = let q = landed-next m at x t e in record { fits = omega arith }
+
+rest : (l : List ℕ) (a : ℕ) → take (length l - a) (drop a l) ≡ drop a l
+rest l a = take-all (length l - a) (drop a l) (rw length-drop (le-refl _))
+
+-- a part's first entry is the volume's at that word
+part-entry : (v : List ℕ) (a : ℕ) → entryAt (word (take (length v - 8 * a) (drop (8 * a) v))) 0 ≡ entryAt (word v) a
+part-entry v a =
+    rw (rest v (8 * a)) (entry-same (word v) (word (drop (8 * a) v)) a 0 (λ o l. word-drop v a (0 + o) ∙ ap (λ (x : ℕ). word v (a + x)) (zero-add o)))
+
+pub is-step : (v : List ℕ) (from at : ℕ) (e : Entry) → at ≡ landing (word v) from
+    → e ≡ short (entryAt (word (take (length v - 8 * at) (drop (8 * at) v))) 0)
+    → record { entry = e; at = at; next = record { at = at + 8 } } ≡ stepAt (word v) from
+is-step v from at e g h = rw (h, part-entry, g)
+
+-- the walk
+onto-some : (p : ℕ) (o : Option (List ℕ)) → isSome (onto p o) ≡ isSome o
+onto-some p none = refl
+onto-some p (some r) = refl
+
+pub ends-low : (n : ℕ) (m : Mem) (P N p q : ℕ) (z : Bool) → isSome (walk m P N n p q) ≡ z → p ≤ N / 8 → false ≡ z
+unfolding walk inPages
+ends-low zero m P N p q z e h = e
+ends-low (suc n) m P N p q z e h = rw (le-ltb (N / 8) p h) at e
+
+pub ends-high : (n : ℕ) (m : Mem) (P N p q : ℕ) (z : Bool) → isSome (walk m P N n p q) ≡ z → N / 8 < p → P ≤ p → false ≡ z
+unfolding walk inPages
+ends-high zero m P N p q z e g h = e
+ends-high (suc n) m P N p q z e g h = rw (lt-ltb (N / 8) p g, le-ltb p P h) at e
+
+pub ends-here : (n : ℕ) (m : Mem) (P N p q : ℕ) (z : Bool) → isSome (walk m P N n p q) ≡ z → 0 < n → N / 8 < p → p < P → p ≡ q → true ≡ z
+unfolding walk inPages
+ends-here zero m P N p q z e l g h k = absurd (omega arith)
+ends-here (suc n) m P N p q z e l g h k = rw (lt-ltb (N / 8) p g, lt-ltb p P h, eq-eqb p q k) at e
+
+pub ends-next : (n : ℕ) (m : Mem) (P N p q r : ℕ) (z : Bool) → isSome (walk m P N n p q) ≡ z → 0 < n → N / 8 < p → p < P → (p ≡ q → ⊥) → r ≡ m (64 * p + 56)
+    → isSome (walk m P N (n - 1) r q) ≡ z
+unfolding walk inPages
+ends-next zero m P N p q r z e l g h k j = absurd (omega arith)
+ends-next (suc n) m P N p q r z e l g h k j = rw (sub-one, j) (rw (lt-ltb (N / 8) p g, lt-ltb p P h, ne-eqb p q k, onto-some) at e)
+
+pub ends-spent : (n : ℕ) (m : Mem) (P N p q : ℕ) (z : Bool) → isSome (walk m P N n p q) ≡ z → n ≤ 0 → false ≡ z
+unfolding walk
+ends-spent zero m P N p q z e l = e
+ends-spent (suc n) m P N p q z e l = absurd (omega arith)
+
+-- The log with head h and tail t.
+module _ (m : Mem) (P N h t : ℕ) where
+  pub found-empty : t ≡ 0 → true ≡ isSome (pagesOf m P N h t)
+  unfolding pagesOf
+  found-empty e = rw e
+
+  wrong-tail : (t ≡ 0 → ⊥) → (tailOk t ≡ true → ⊥) → false ≡ isSome (pagesOf m P N h t)
+  unfolding pagesOf
+  wrong-tail z w = rw (ne-eqb t 0 z, not-true-false (tailOk t) w)
+
+  pub found-odd : (t ≡ 0 → ⊥) → (t % 64 ≡ 0 → ⊥) → false ≡ isSome (pagesOf m P N h t)
+  found-odd z e = wrong-tail z (λ k. let s = tail-slots t k in e (omega arith))
+
+  pub found-round : (t ≡ 0 → ⊥) → t % 512 ≡ 0 → false ≡ isSome (pagesOf m P N h t)
+  found-round z f = wrong-tail z (λ k. let s = tail-slots t k in omega arith)
+
+  pub found-walk : (r : Bool) → r ≡ isSome (walk m P N P h (t / 512)) → (t ≡ 0 → ⊥) → t % 64 ≡ 0 → (t % 512 ≡ 0 → ⊥) → r ≡ isSome (pagesOf m P N h t)
+  unfolding pagesOf
+  found-walk r g z e f = rw (ne-eqb t 0 z, tail-ok t (t % 512 / 64) (omega arith) (omega arith) (omega arith)) g
+
+pub start-empty : (h t : ℕ) → t ≡ 0 → 0 ≡ startOf h t
+unfolding startOf
+start-empty h t e = rw e
+
+pub start-full : (h t : ℕ) → (t ≡ 0 → ⊥) → 64 * h ≡ startOf h t
+unfolding startOf
+start-full h t e = rw (ne-eqb t 0 e)
+
+pub start-fits : (h t : ℕ) → (t ≡ 0 → ⊥) → startOf h t ≤ 262144 → Fits w64 (64 * h)
+start-fits h t e l = let q = start-full h t e in record { fits = omega arith }

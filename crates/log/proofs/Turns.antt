@@ -1,0 +1,57 @@
+-- One turn of a loop that reads a log by steps: at a cursor that is inside and not at the end the step is safe, and what it hands
+-- back is the first of the entries that are left.
+use Prim.Native.Nat.{ℕ, zero, suc, _+_, _*_, _-_, _≤_, _<_}
+use mathlib.Core.Path.{_≡_, refl}
+use mathlib.Core.Bool.{true, _&&_}
+use mathlib.Core.List.{[], _∷_}
+use native.Mathlib.Omega.{arith}
+use native.Mathlib.Numerals.{sub-one}
+use lib.Dec.{ltb}
+use borrow.Author.Tests.{eq-eqb, ne-eqb, ltb-true}
+use Rattle.model.specs.Words.{Mem}
+use Rattle.model.specs.Entry.{entryAt}
+use Rattle.model.proofs.Tests.{ands, cond-and}
+use Rattle.log.specs.Steps.{landing, stepAt, entriesFrom, within}
+use Rattle.log.specs.declared.Step.{Step}
+
+-- The entries that are left.
+
+pub next-entries : (n : ℕ) (m : Mem) (at end : ℕ) → 0 < n → (at ≡ end → ⊥)
+    → entriesFrom n m at end ≡ entryAt m (landing m at) ∷ entriesFrom (n - 1) m (landing m at + 8) end
+unfolding entriesFrom
+next-entries zero m at end l d = absurd (omega arith)
+next-entries (suc n) m at end l d = rw (entriesFrom, ne-eqb at end d, sub-one)
+
+pub no-entries : (n : ℕ) (m : Mem) (at end : ℕ) → at ≡ end → entriesFrom n m at end ≡ []
+unfolding entriesFrom
+no-entries zero m at end d = refl
+no-entries (suc n) m at end d = rw (entriesFrom, eq-eqb at end d)
+
+pub spent-entries : (n : ℕ) (m : Mem) (at end : ℕ) → n ≤ 0 → entriesFrom n m at end ≡ []
+unfolding entriesFrom
+spent-entries zero m at end l = refl
+spent-entries (suc n) m at end l = absurd (omega arith)
+
+-- The step.
+
+inside : (n : ℕ) (m : Mem) (P at end : ℕ) → within n m P at end ≡ true → 0 < n → (at ≡ end → ⊥)
+    → (at < 64 * P) × (landing m at + 7 < 64 * P) × (within (n - 1) m P (landing m at + 8) end ≡ true)
+unfolding within
+inside zero m P at end w l d = absurd (omega arith)
+inside (suc n) m P at end w l d =
+    let x = cond-and (ltb at (64 * P) && ltb (landing m at + 7) (64 * P)) (within n m P (landing m at + 8) end) (rw (ne-eqb at end d) at w) in
+    let y = x .0 in
+    (ltb-true at (64 * P) (search ands), ltb-true (landing m at + 7) (64 * P) (search ands), rw sub-one (x .1))
+
+module _ (n : ℕ) (m : Mem) (P at end : ℕ) (w : within n m P at end ≡ true) (l : 0 < n) (d : at ≡ end → ⊥) where
+  pub step-here : (L : ℕ) → 512 * P ≤ L → 8 * at + 8 ≤ L
+  step-here L h = let i = inside n m P at end w l d in omega arith
+
+  pub step-there : (L : ℕ) → 512 * P ≤ L → 8 * landing m at + 64 ≤ L
+  step-there L h = let i = inside n m P at end w l d in omega arith
+
+  pub step-low : P ≤ 4096 → landing m at < 262144
+  step-low h = let i = inside n m P at end w l d in omega arith
+
+  pub within-turn : (r : Step) → r ≡ stepAt m at → within (n - 1) m P (r .next .at) end ≡ true
+  within-turn r e = rw e (inside n m P at end w l d .2)

@@ -1,0 +1,161 @@
+// An inode's log, read entry by entry: the entry that a part of the volume starts with, a step from one entry to the
+// next, and whether a log has an end. v is the volume, read as it stands: a log's head and tail come from the view, and
+// its pages lie past every word that the view puts back (proofs/Viewed.antt). The largest volume has 262,144 words.
+ghost use mathlib.Core.Path.{_≡_};
+ghost use Prim.Native.Nat.{_+_, _*_, _≤_, _<_};
+ghost use lib.ListN.{length};
+ghost use Rattle.model.specs.Lists.{isSome};
+ghost use Rattle.model.specs.Words.{word};
+ghost use Rattle.model.specs.Entry.{entryAt};
+ghost use Rattle.model.specs.Log.{walk, pagesOf};
+ghost use Rattle.log.specs.Steps.{short, landing, stepAt, startOf};
+
+// A place in a log, as a word index: an entry's first word, or the footer after a page's last entry.
+pub struct Cursor {
+    pub at: usize,
+}
+
+// An entry, each kind with its own fields. A name stays in the volume: its 32 bytes start at the entry's word 3.
+pub enum Entry {
+    // count data pages from page on become the file pages from file on, and size the file's size
+    Write {
+        file: u64,
+        page: u64,
+        count: u64,
+        size: u64,
+    },
+    // the file's size, after which its pages are unmapped
+    SetSize(u64),
+    // a name of len bytes that leads to inode
+    Add {
+        inode: u64,
+        len: u64,
+    },
+    // the length of a name that is taken out
+    Remove(u64),
+    // no kind of entry
+    None,
+}
+
+// What a step hands back: the entry, its first word, and the cursor after it.
+pub struct Step {
+    pub entry: Entry,
+    pub at: usize,
+    pub next: Cursor,
+}
+
+// Reads the entry that a part of the volume starts with, from its own 64 bytes, and answers it.
+// Example: of a part that starts with the words 2 and 700, entry_of(part) is Entry::SetSize(700).
+fn entry_of(part: &[u8]) -> Entry
+    requires { ⌜ 64 ≤ length (now part) ⌝ }
+    ensures { λ r. ⌜ r ≡ short (entryAt (word (now (part .entry))) 0) ⌝ }
+{
+    let kind = words::word_at(part, 0);
+    if kind == 1 {
+        return Entry::Write {
+            file: words::word_at(part, 1),
+            page: words::word_at(part, 2),
+            count: words::word_at(part, 3),
+            size: words::word_at(part, 4),
+        };
+    }
+    if kind == 2 {
+        return Entry::SetSize(words::word_at(part, 1));
+    }
+    if kind == 3 {
+        return Entry::Add {
+            inode: words::word_at(part, 1),
+            len: words::word_at(part, 2),
+        };
+    }
+    if kind == 4 {
+        return Entry::Remove(words::word_at(part, 2));
+    }
+    Entry::None
+}
+
+// Answers the first word of the entry at a cursor: at a footer it is the first word of the next page.
+// Example: land(v, 648) is 648, and where word 696, the footer of page 10, is 12, land(v, 696) is 768.
+fn land(v: &[u8], at: usize) -> usize
+    requires { ⌜ (8 * at + 8 ≤ length (now v)) × (landing (word (now v)) at < 262144) ⌝ }
+    ensures { λ r. ⌜ r ≡ landing (word (now (v .entry))) at ⌝ }
+{
+    if at % 64 == 56 {
+        return 64 * (words::word_at(v, at) as usize);
+    }
+    at
+}
+
+// Reads the entry at a cursor, and answers it with the cursor after it.
+// Example: where words 640 and 641 are 2 and 700, log_step(v, Cursor { at: 640 }) has the entry Entry::SetSize(700), at 640
+// and the next cursor at 648.
+pub fn log_step(v: &[u8], c: Cursor) -> Step
+    requires { ⌜ (8 * c .at + 8 ≤ length (now v)) × (8 * landing (word (now v)) (c .at) + 64 ≤ length (now v)) × (landing (word (now v)) (c .at) < 262144) ⌝ }
+    ensures { λ r. ⌜ r ≡ stepAt (word (now (v .entry))) (c .at) ⌝ }
+{
+    let from = c.at;
+    let at = land(v, from);
+    let b = 8 * at;
+    let e = entry_of(&v[b..]);
+    Step {
+        entry: e,
+        at,
+        next: Cursor { at: at + 8 },
+    }
+}
+
+// Answers whether the walk from page head through the footers ends at page last, inside the log and data pages.
+// Example: where the footer of page 10 is 12, log_ends(v, 10, 12, 64, 8) is true; where it is 10, or 64, it is false.
+pub fn log_ends(v: &[u8], head: usize, last: usize, pages: usize, inodes: usize) -> bool
+    requires { ⌜ 512 * pages ≤ length (now v) ⌝ }
+    ensures { λ r. ⌜ r ≡ isSome (walk (word (now (v .entry))) pages inodes pages head last) ⌝ }
+{
+    let low = inodes / 8;
+    let mut p = head;
+    let mut fuel = pages;
+    while 0 < fuel {
+        if p <= low {
+            return false;
+        }
+        if pages <= p {
+            return false;
+        }
+        if p == last {
+            return true;
+        }
+        p = words::word_at(v, 64 * p + 56) as usize;
+        fuel = fuel - 1;
+    }
+    false
+}
+
+// Answers whether the log with this head and tail has pages: it is empty, or its tail is right and its walk ends.
+// Example: log_found(v, 9, 0, 64, 8) is true, since tail 0 is an empty log; log_found(v, 9, 5120, 64, 8) is false, since
+// no entry of page 10 stands before that tail.
+pub fn log_found(v: &[u8], head: usize, tail: usize, pages: usize, inodes: usize) -> bool
+    requires { ⌜ 512 * pages ≤ length (now v) ⌝ }
+    ensures { λ r. ⌜ r ≡ isSome (pagesOf (word (now (v .entry))) pages inodes head tail) ⌝ }
+{
+    if tail == 0 {
+        return true;
+    }
+    if tail % 64 != 0 {
+        return false;
+    }
+    if tail % 512 == 0 {
+        return false;
+    }
+    log_ends(v, head, tail / 512, pages, inodes)
+}
+
+// Answers the cursor at which the log with this head and tail starts; it ends at word tail / 8.
+// Example: log_start(10, 5248) is at word 640, and log_start(10, 0) at word 0, where the empty log ends too.
+pub fn log_start(head: usize, tail: usize) -> Cursor
+    requires { ⌜ startOf head tail ≤ 262144 ⌝ }
+    ensures { λ r. ⌜ r .at ≡ startOf head tail ⌝ }
+{
+    if tail == 0 {
+        return Cursor { at: 0 };
+    }
+    Cursor { at: 64 * head }
+}

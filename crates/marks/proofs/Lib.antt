@@ -1,0 +1,3 @@
+-- Counts has the laws for crates above; Turns has the cases of this crate's loops.
+pub mod Counts
+mod Turns

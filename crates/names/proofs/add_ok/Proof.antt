@@ -1,0 +1,14 @@
+-- An inode out of range fails the definition's test at once; of another the name decides.
+use borrow.Author.Needs.{needs}
+use Rattle.names.proofs.Fields.{add-none, add-far, add-is}
+use Rattle.names.proofs.add_ok.Statement.{statement}
+use Rattle.names.proofs.add_ok.Tie as tie
+
+pub add-ok-spec : {M : Type 1} → statement M
+add-ok-spec =
+    tie.close
+    (tie.spec
+    (λ c. search (add-none, needs))
+    (λ c. search (add-far, needs))
+    (λ c κs. search needs)
+    (λ c. search (add-is, needs)))

@@ -1,0 +1,37 @@
+-- The loop's invariant: the bytes that are left are the rest of the name and zeros if and only if all 32 are the name and zeros.
+use Prim.Native.Nat.{_+_}
+use mathlib.Core.Path.{_≡_}
+use borrow.Author.Needs.{needs}
+use Rattle.model.specs.Lists.{valuesFrom}
+use Rattle.model.specs.Words.{word, byteAt}
+use Rattle.names.specs.Fields.{nameThenZeros}
+use Rattle.names.proofs.Fields.{name-zero, name-slash, name-next, rest-bad, rest-next, field-end}
+use Rattle.names.proofs.field_ok.Statement.{statement}
+use Rattle.names.proofs.field_ok.Tie as tie
+
+abbrev Inv-loop : tie.InvT-loop
+Inv-loop v at len b₀ l₀ left₀ b l left =
+    (b + left ≡ at + 32) × (nameThenZeros l (valuesFrom (byteAt (word v)) b left) ≡ nameThenZeros len (valuesFrom (byteAt (word v)) at 32))
+
+abbrev μ-loop : tie.MeasureT-loop
+μ-loop v at len b₀ l₀ left₀ b l left = left
+
+pub field-ok-spec : {M : Type 1} → statement M
+field-ok-spec =
+    tie.close
+    (tie.spec
+    Inv-loop
+    μ-loop
+    (λ c. search needs)
+    (λ c κs. search needs)
+    (λ c. search needs)
+    (λ c. search needs)
+    (λ c. search needs)
+    (λ c. search (name-zero, needs))
+    (λ c. search (name-slash, needs))
+    (λ c. search needs)
+    (λ c. search (name-next, needs))
+    (λ c. search (rest-bad, needs))
+    (λ c. search needs)
+    (λ c. search (rest-next, needs))
+    (λ c. search (field-end, needs)))

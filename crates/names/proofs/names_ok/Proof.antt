@@ -1,0 +1,16 @@
+-- Each answer is one case of the definition's three tests; the marks of the inodes that names lead to stand for its test of membership.
+use borrow.Author.Needs.{needs}
+use Rattle.names.proofs.Inodes.{names-many, names-invalid, marks-in, names-are}
+use Rattle.names.proofs.names_ok.Statement.{statement}
+use Rattle.names.proofs.names_ok.Tie as tie
+
+pub names-ok-spec : {M : Type 1} → statement M
+names-ok-spec =
+    tie.close
+    (tie.spec
+    (λ c. search (names-many, needs))
+    (λ c κs. search needs)
+    (λ c. search (names-invalid, needs))
+    (λ c κs. search (marks-in, needs))
+    (λ c κs. search needs)
+    (λ c. search (names-are, needs)))
