@@ -106,8 +106,8 @@ module _ (v : List ℕ) (P N : ℕ) (is-volume : isVolume (length v) (word v) �
 
       -- What `accepted_names` answered, x, with the table t.
       module _ (x : Named) (t : List ℕ)
-        (f : Folds (word v) (length v) (logOk (view (word v)) P N root && namesOk (view (word v)) N (namesOf (view (word v)) P N root))
-        (namesOf (view (word v)) P N root) x t) where
+          (f : Folds (word v) (length v) (logOk (view (word v)) P N root && namesOk (view (word v)) N (namesOf (view (word v)) P N root))
+          (namesOf (view (word v)) P N root) x t) where
         -- c names
         module _ (c : ℕ) (h : x ≡ Count c) where
           pub directory-log : logOk (view (word v)) P N root ≡ true
@@ -130,7 +130,7 @@ module _ (v : List ℕ) (P N : ℕ) (is-volume : isVolume (length v) (word v) �
         no-names b h =
             record {
               answer = rw (← pages, ← inodes, good-journal) (sym (not-true-false (viewOk (view (word v)) P N)
-              (λ e. clash _ (view-names _ _ _ some-inodes e) (bad-not _ _ _ _ _ _ f h))));
+                  (λ e. clash _ (view-names _ _ _ some-inodes e) (bad-not _ _ _ _ _ _ f h))));
               filled = λ e. no e;
               names = λ e. no e;
               served = λ e. no e;
