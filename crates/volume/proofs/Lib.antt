@@ -3,3 +3,5 @@ mod Formatting
 mod Pairs
 mod Carrying
 mod Codes
+pub mod Reading
+pub mod Sizes

@@ -33,6 +33,10 @@ meaning BadList = refused badList
 abbrev pub plain : model.Answer Nothing → model.Answer (Option ℕ)
 plain = mapAnswer (λ n. none)
 
+-- the model's answer of a call that answers a number
+abbrev pub numbered : model.Answer ℕ → model.Answer (Option ℕ)
+numbered = mapAnswer some
+
 -- the largest number of an i64
 abbrev largest : ℕ
 largest = 2 ^ 63 - 1

@@ -1,14 +1,18 @@
 // The calls of the file store. Each works from the lent volume v alone, takes any bytes and any numbers, and answers
 // what document 01 says; a refusal leaves every lent byte as it was.
 ghost use mathlib.Core.Path.{_≡_};
-ghost use mathlib.Core.Bool.{true, _&&_};
+ghost use mathlib.Core.Bool.{true, not, _&&_, _||_};
 ghost use mathlib.Core.List.{_++_};
 ghost use Prim.Native.Nat.{_+_, _*_, _/_, _%_, _≤_};
 ghost use lib.ListN.{length, drop, replicate};
-ghost use Rattle.model.specs.Words.{putWord};
+ghost use lib.Dec.{leb};
+ghost use Rattle.model.specs.Words.{word, putWord};
+ghost use Rattle.model.specs.Journal.{view};
+ghost use Rattle.model.specs.Accept.{isFile};
+ghost use Rattle.names.specs.Inodes.{Readable};
 ghost use Rattle.model.specs.Stores.{carried};
-ghost use Rattle.model.specs.Public.{formatAnswer, formatVolume, pairsOk, endsInFence, carryAnswer, carryVolume};
-ghost use Rattle.volume.specs.Meaning.{meaning, plain, codeOf};
+ghost use Rattle.model.specs.Public.{formatAnswer, formatVolume, pairsOk, endsInFence, carryAnswer, carryVolume, findAnswer, freeAnswer, kthNameAnswer, kthNameBuffer, sizeAnswer};
+ghost use Rattle.volume.specs.Meaning.{meaning, plain, numbered, codeOf};
 ghost use Rattle.volume.specs.Pairs.{pairOk, pairStored};
 
 // What a call answers. specs/Meaning.antt gives document 01's number and value of each case.
@@ -239,4 +243,142 @@ pub fn carry_out(v: &mut [u8], list: &[u64], count: u64) -> Answer
     }
     store_pairs(v, part);
     Answer::Done
+}
+
+// Answers Number with the count of free pages.
+// Refusals: NoVolume, Damaged, JournalOpen.
+// Example: of 16 pages just formatted with 8 inodes free_count(v) is Number(14).
+pub fn free_count(v: &[u8]) -> Answer
+    ensures { λ r. ⌜ meaning r ≡ numbered (freeAnswer (now (v .entry))) ⌝ }
+{
+    if !header::is_volume(v) {
+        return Answer::NoVolume;
+    }
+    let mut places = [0u16; 28672];
+    let mut marks = [0u8; 4096];
+    let found = survey::judge(v, &mut places, &mut marks);
+    if !found.accepted {
+        return Answer::Damaged;
+    }
+    if journal::is_open(v) {
+        return Answer::JournalOpen;
+    }
+    let pages = words::word_at(v, header::PAGES_WORD) as usize;
+    let inodes = words::word_at(v, header::INODES_WORD) as usize;
+    Answer::Number(inodes::free_count(&marks, pages, inodes))
+}
+
+// Looks a name up and answers Number with its inode.
+// Refusals: NoVolume, Damaged, JournalOpen, BadName, NotThere.
+// Example: where the name "A1" leads to inode 1, find(v, b"A1") is Number(1), find(v, b"A2") NotThere and find(v, b"") BadName.
+pub fn find(v: &[u8], name: &[u8]) -> Answer
+    ensures { λ r. ⌜ meaning r ≡ numbered (findAnswer (now (v .entry)) (now (name .entry))) ⌝ }
+{
+    if !header::is_volume(v) {
+        return Answer::NoVolume;
+    }
+    let mut places = [0u16; 28672];
+    let mut marks = [0u8; 4096];
+    let found = survey::judge(v, &mut places, &mut marks);
+    if !found.accepted {
+        return Answer::Damaged;
+    }
+    if journal::is_open(v) {
+        return Answer::JournalOpen;
+    }
+    if !lookup::is_name(name) {
+        return Answer::BadName;
+    }
+    let inode = lookup::find_name(v, &places, found.names, name);
+    if inode == 0 {
+        return Answer::NotThere;
+    }
+    Answer::Number(inode)
+}
+
+// Lays the k-th name of the directory, counted from 0, into the first 32 bytes of a buffer, zeros after it, and answers Number
+// with its length.
+// Refusals: ShortMemory, NoVolume, Damaged, JournalOpen, NotThere.
+// Example: where "A1" is the only name, kth_name(v, 0, buffer) is Number(2) and makes the buffer begin with 65, 49 and 30 zeros;
+// kth_name(v, 1, buffer) is NotThere.
+pub fn kth_name(v: &[u8], k: u64, buffer: &mut [u8]) -> Answer
+    ensures { λ r. ⌜ (meaning r ≡ numbered (kthNameAnswer (now (v .entry)) k (now (buffer .entry))))
+        × (now (buffer .exit) ≡ kthNameBuffer (now (v .entry)) k (now (buffer .entry))) ⌝ }
+{
+    if buffer.len() < 32 {
+        return Answer::ShortMemory;
+    }
+    if !header::is_volume(v) {
+        return Answer::NoVolume;
+    }
+    let mut places = [0u16; 28672];
+    let mut marks = [0u8; 4096];
+    let found = survey::judge(v, &mut places, &mut marks);
+    if !found.accepted {
+        return Answer::Damaged;
+    }
+    if journal::is_open(v) {
+        return Answer::JournalOpen;
+    }
+    let count = found.names;
+    if count as u64 <= k {
+        return Answer::NotThere;
+    }
+    let place = names::place(&places, k as usize);
+    Answer::Number(lookup::lay_name(v, place, buffer))
+}
+
+// Answers whether an inode is none of a file: out of range, the directory's, or not valid.
+// Example: of a volume just formatted with 8 inodes it is true of every number.
+fn no_file(v: &[u8], inode: u64, inodes: u64) -> bool
+    requires { ⌜ Readable (word (now v)) (length (now v)) inodes ⌝ }
+    ensures { λ r. ⌜ r ≡ leb inodes inode || not (isFile (view (word (now (v .entry)))) inode) ⌝ }
+{
+    if inodes <= inode {
+        return true;
+    }
+    if inode == 0 {
+        return true;
+    }
+    if journal::viewed(v, 64 + 8 * (inode as usize)) == 1 {
+        return false;
+    }
+    true
+}
+
+// Answers Number with the size of a file.
+// Refusals: NoVolume, Damaged, JournalOpen, NotThere.
+// Example: where inode 1 is a file of 514 bytes, size(v, 1) is Number(514); size(v, 0) is NotThere.
+pub fn size(v: &[u8], inode: u64) -> Answer
+    ensures { λ r. ⌜ meaning r ≡ numbered (sizeAnswer (now (v .entry)) inode) ⌝ }
+{
+    if !header::is_volume(v) {
+        return Answer::NoVolume;
+    }
+    let mut places = [0u16; 28672];
+    let mut marks = [0u8; 4096];
+    let found = survey::judge(v, &mut places, &mut marks);
+    if !found.accepted {
+        return Answer::Damaged;
+    }
+    if journal::is_open(v) {
+        return Answer::JournalOpen;
+    }
+    let pages = words::word_at(v, header::PAGES_WORD);
+    let inodes = words::word_at(v, header::INODES_WORD);
+    if no_file(v, inode, inodes) {
+        return Answer::NotThere;
+    }
+    let mut table = [0u64; 128];
+    let state = files::file_state(
+        v,
+        inode as usize,
+        pages as usize,
+        inodes as usize,
+        &mut table,
+    );
+    match state {
+        files::Folded::Size(n) => Answer::Number(n),
+        files::Folded::Bad => Answer::Damaged,
+    }
 }
