@@ -130,7 +130,7 @@ pub fn judge_pages(v: &[u8], pages: usize, inodes: usize, marks: &mut [u8; 4096]
 // Answers 1 where page p is a log or data page that is not marked, and 0 where not.
 // Example: of marks that are all 0 unmarked_at(marks, 2, 16, 8) is 1, and unmarked_at(marks, 1, 16, 8) is 0, since page 1
 // is of the inode table.
-fn unmarked_at(marks: &[u8; 4096], p: usize, pages: usize, inodes: usize) -> u64
+pub fn unmarked_at(marks: &[u8; 4096], p: usize, pages: usize, inodes: usize) -> u64
     requires { ⌜ (p < pages) × (pages ≤ 4096) ⌝ }
     ensures { λ r. ⌜ (r ≡ bit (unmarked (now (marks .entry)) pages inodes p)) × (r ≤ 1) ⌝ }
 {

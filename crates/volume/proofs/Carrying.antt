@@ -14,7 +14,7 @@ use Rattle.model.specs.Answer.{refused, done, firstRefusal, noVolume, badList}
 use Rattle.model.specs.Public.{isVolume, pairsOk, endsInFence, listChecks, carryOut, carryAnswer, carryVolume}
 use Rattle.model.proofs.Tests.{by-bool, and-left, and-right}
 use Rattle.model.proofs.Crash.Landing.{volume-parts}
-use Rattle.volume.specs.Meaning.{plain}
+use Rattle.answer.specs.Meaning.{plain}
 
 -- The part of a list that is looked at: its first n words.
 

@@ -16,7 +16,7 @@ use Rattle.model.specs.Answer.{refused, done, noVolume}
 use Rattle.model.specs.Public.{formatted, format, formatAnswer, formatVolume}
 use Rattle.model.proofs.Tests.{and-left, and-right}
 use Rattle.model.proofs.Crash.Landing.{Sizes, sizes-parts}
-use Rattle.volume.specs.Meaning.{plain}
+use Rattle.answer.specs.Meaning.{plain}
 
 -- The loop of `zero`.
 

@@ -1,7 +1,4 @@
--- The cases of format, of the loops over pairs, of carry out and of `code`.
+-- The cases of format, of carry out and of the reading calls.
 mod Formatting
-mod Pairs
 mod Carrying
-mod Codes
-pub mod Reading
-pub mod Sizes
+mod Reading

@@ -1,0 +1,2 @@
+-- The cases of `code`.
+mod Codes

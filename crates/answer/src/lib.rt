@@ -1,0 +1,68 @@
+// What the calls of the file store answer, and the number that C gets for it.
+ghost use mathlib.Core.Path.{_≡_};
+ghost use Rattle.answer.specs.Meaning.{meaning, codeOf};
+
+// What a call answers. specs/Meaning.antt gives document 01's number and value of each case.
+pub enum Answer {
+    // The call is done, and has no number to answer: format and carry out.
+    Done,
+    // The call is done, and this is its number: the count of words filled, an inode, a size, and so on.
+    Number(u64),
+    // 1: the store list to be filled has under 4,096 words, or the name buffer under 32 bytes.
+    ShortMemory,
+    // 2: the slice's length, word 0, 1 or 2, or format's sizes break their limits.
+    NoVolume,
+    // 3: the volume is otherwise not accepted.
+    Damaged,
+    // 4: the journal is open.
+    JournalOpen,
+    // 5: a name's length, or a byte in it, is not allowed.
+    BadName,
+    // 6: the name is absent, the inode invalid or out of range, or k too large.
+    NotThere,
+    // 7: the new name stands already.
+    Taken,
+    // 8: over 4,096 bytes to write.
+    LongWrite,
+    // 9: the file would be longer than 65,536 bytes.
+    PastTheEnd,
+    // 10: all inodes are valid.
+    NoInode,
+    // 11: it would be the 225th name.
+    DirectoryFull,
+    // 12: there are not enough free pages where they are needed.
+    NoSpace,
+    // 13: what is to be carried out is no store list for this volume.
+    BadList,
+}
+
+// Answers an answer as one number, as the C firmware gets it: the answer's number (0 where it has none), or minus the
+// number of the refusal. A number too large for an i64, which no call answers, comes out as the largest i64.
+// Example: code(Answer::Number(514)) is 514, code(Answer::Done) is 0 and code(Answer::NoSpace) is -12.
+pub fn code(answer: Answer) -> i64
+    ensures { λ r. ⌜ r ≡ codeOf (meaning answer) ⌝ }
+{
+    match answer {
+        Answer::Done => 0,
+        Answer::Number(x) => {
+            if x < 9223372036854775808 {
+                x as i64
+            } else {
+                9223372036854775807
+            }
+        }
+        Answer::ShortMemory => -1,
+        Answer::NoVolume => -2,
+        Answer::Damaged => -3,
+        Answer::JournalOpen => -4,
+        Answer::BadName => -5,
+        Answer::NotThere => -6,
+        Answer::Taken => -7,
+        Answer::LongWrite => -8,
+        Answer::PastTheEnd => -9,
+        Answer::NoInode => -10,
+        Answer::DirectoryFull => -11,
+        Answer::NoSpace => -12,
+        Answer::BadList => -13,
+    }
+}

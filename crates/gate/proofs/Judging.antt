@@ -1,0 +1,91 @@
+-- The judge's answer is the second check and its count that of the directory's names; an open journal is the third check.
+use Prim.Native.Nat.{ℕ}
+use mathlib.Core.Path.{_≡_, refl, sym, _∙_}
+use mathlib.Core.Bool.{Bool, true, false, not}
+use mathlib.Core.List.{List, [], _∷_}
+use mathlib.Core.Option.{some}
+use native.Mathlib.Omega.{arith}
+use borrow.Author.Tests.{not-true, not-false}
+use lib.ListN.{length}
+use Rattle.model.specs.Words.{word}
+use Rattle.model.specs.Journal.{isOpen}
+use Rattle.model.specs.Answer.{done, firstRefusal, journalOpen}
+use Rattle.model.specs.Public.{isVolume, volumeChecks, closedChecks}
+use Rattle.names.proofs.Table.{standing-length}
+use Rattle.survey.specs.declared.Found.{Found}
+use Rattle.survey.specs.Surveyed.{Surveyed}
+use Rattle.answer.specs.Meaning.{meaning, numbered}
+use Rattle.answer.specs.declared.Answer.{Answer}
+use Rattle.answer.specs.declared.Answer.the-variants.{Number, NoVolume, Damaged, JournalOpen}
+use Rattle.gate.specs.Gated.{rootNames, Tables, Gated}
+use Rattle.gate.proofs.Gates.{NoNumber, gate-refused, gate-passed, same-number}
+
+-- f is what `is_volume` answered of v
+module _ (v : List ℕ) (f : Bool) (a : f ≡ isVolume (length v) (word v)) where
+  pub judged-none : (places marks : List ℕ) → not f ≡ true → Gated v (volumeChecks (length v) (word v)) NoVolume places marks
+  unfolding volumeChecks
+  judged-none places marks h =
+      record {
+        answer = rw (← a, not-true f h);
+        tables = λ n e. let q : _≡_ {A = ℕ} 0 1 = cc in absurd (omega arith);
+      }
+
+  pub judged-is : not f ≡ false → isVolume (length v) (word v) ≡ true
+  judged-is h = sym a ∙ not-false f h
+
+  module _ (h : not f ≡ false) (r : Found) (places marks : List ℕ) (s : Surveyed (word v) (length v) r places marks) where
+    pub judged-damaged : not (r .accepted) ≡ true → Gated v (volumeChecks (length v) (word v)) Damaged places marks
+    unfolding volumeChecks
+    judged-damaged y =
+        record {
+          answer = rw (judged-is h, ← (s .answer), not-true (r .accepted) y);
+          tables = λ n e. let q : _≡_ {A = ℕ} 0 1 = cc in absurd (omega arith);
+        }
+
+    found : r .accepted ≡ true → Tables v (r .names) places marks
+    found y =
+        record {
+          volume = judged-is h;
+          good = sym (s .answer) ∙ y;
+          filled = s .filled y;
+          names = s .names y;
+          served = s .served y;
+        }
+
+    pub judged-good : not (r .accepted) ≡ false → Gated v (volumeChecks (length v) (word v)) (Number (r .names)) places marks
+    unfolding volumeChecks
+    judged-good y =
+        let z = not-false (r .accepted) y in
+        record {
+          answer = rw (judged-is h, ← (s .answer), z, ← (s .names z), standing-length (word v) (length v) places (r .names) (s .filled z));
+          tables = λ n e. let q : r .names ≡ n = cc in rw (← q) (found z);
+        }
+
+-- g is what `judged` answered and left, o what `is_open` answered
+module _ (v : List ℕ) (r : Answer) (places marks : List ℕ) (g : Gated v (volumeChecks (length v) (word v)) r places marks) where
+  pub closed-refused : NoNumber r → Gated v (closedChecks (length v) (word v)) r places marks
+  unfolding closedChecks
+  closed-refused o =
+      record {
+        answer = gate-refused v _ r places marks g some _ _ o;
+        tables = g .tables;
+      }
+
+  module _ (n : ℕ) (e : r ≡ Number n) (o : Bool) (b : o ≡ isOpen (word v)) where
+    passed : firstRefusal (closedChecks (length v) (word v)) (done (length (rootNames v))) ≡ firstRefusal ((isOpen (word v), journalOpen) ∷ []) (done (length (rootNames v)))
+    unfolding closedChecks
+    passed = gate-passed v _ r places marks g n e _ _
+
+    pub closed-open : o ≡ true → Gated v (closedChecks (length v) (word v)) JournalOpen places marks
+    closed-open y =
+        record {
+          answer = rw (passed, ← b, y);
+          tables = λ k z. let q : _≡_ {A = ℕ} 0 1 = cc in absurd (omega arith);
+        }
+
+    pub closed-is : o ≡ false → Gated v (closedChecks (length v) (word v)) (Number n) places marks
+    closed-is y =
+        record {
+          answer = rw (passed, ← b, y, same-number (volumeChecks (length v) (word v)) _ n (rw e at (g .answer)));
+          tables = λ k z. g .tables k (e ∙ z);
+        }

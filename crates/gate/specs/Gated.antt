@@ -1,0 +1,35 @@
+-- What the checks that calls ask first come to, and what the tables hold where none of them refuses.
+use Prim.Native.Nat.{ℕ}
+use mathlib.Core.Path.{_≡_}
+use mathlib.Core.Bool.{true}
+use mathlib.Core.List.{List}
+use lib.ListN.{length, take}
+use Rattle.model.specs.Words.{word}
+use Rattle.model.specs.Layout.{root}
+use Rattle.model.specs.Journal.{view}
+use Rattle.model.specs.State.{Names, namesOf}
+use Rattle.model.specs.Accept.{accepted}
+use Rattle.model.specs.Answer.{done, Checks, firstRefusal}
+use Rattle.model.specs.Public.{isVolume}
+use Rattle.names.specs.Places.{standing, Filled}
+use Rattle.inodes.specs.Judged.{Served}
+use Rattle.answer.specs.Meaning.{meaning, numbered}
+use Rattle.answer.specs.declared.Answer.{Answer}
+use Rattle.answer.specs.declared.Answer.the-variants.{Number}
+
+-- the names of the directory of the volume v
+abbrev pub rootNames : List ℕ → Names
+rootNames v = namesOf (view (word v)) (word v 0) (word v 1) root
+
+-- v is an accepted volume with n names; the first places are those of its names, and the marks those of its pages in use.
+pub record Tables (v : List ℕ) (n : ℕ) (places marks : List ℕ) : Type 0 where
+  pub volume : isVolume (length v) (word v) ≡ true
+  pub good : accepted (word v) (word v 0) (word v 1) ≡ true
+  pub filled : Filled (word v) (length v) n places
+  pub names : standing (word v) (take n places) ≡ rootNames v
+  pub served : Served (view (word v)) (word v 0) (word v 1) true marks
+
+-- r: the number of the first check that holds, or the count of names where none does
+pub record Gated (v : List ℕ) (checks : Checks) (r : Answer) (places marks : List ℕ) : Type 0 where
+  pub answer : meaning r ≡ numbered (firstRefusal checks (done (length (rootNames v))))
+  pub tables : (n : ℕ) → r ≡ Number n → Tables v n places marks

@@ -1,0 +1,42 @@
+// What calls ask of a volume before anything else: that it is one, that it is accepted, and that its journal is closed.
+// v is the volume. The tables are lent, and are those of crate survey.
+ghost use mathlib.Core.Path.{_≡_};
+ghost use lib.ListN.{length, replicate};
+ghost use Rattle.model.specs.Words.{word};
+ghost use Rattle.model.specs.Public.{volumeChecks, closedChecks};
+ghost use Rattle.gate.specs.Gated.{Gated};
+use answer::Answer;
+
+// Judges a volume and fills the tables; marks must be zeros. Answers Number with its count of names, NoVolume or Damaged. Where it
+// answers no number, the tables hold anything.
+// Example: of a volume just formatted it answers Number(0), of no bytes NoVolume.
+pub fn judged(v: &[u8], places: &mut [u16; 28672], marks: &mut [u8; 4096]) -> Answer
+    requires { ⌜ (length (now places) ≡ 28672) × (now marks ≡ replicate 4096 0) ⌝ }
+    ensures { λ r. ⌜ Gated (now (v .entry)) (volumeChecks (length (now (v .entry))) (word (now (v .entry)))) r (now (places .exit)) (now (marks .exit)) ⌝ }
+{
+    if !header::is_volume(v) {
+        return Answer::NoVolume;
+    }
+    let found = survey::judge(v, places, marks);
+    if !found.accepted {
+        return Answer::Damaged;
+    }
+    Answer::Number(found.names as u64)
+}
+
+// Judges a volume and its journal and fills the tables, as `judged` does. Answers Number with its count of names, NoVolume, Damaged or
+// JournalOpen.
+// Example: of a volume just formatted it answers Number(0); where its dequeue word is 1 and its enqueue word 0, JournalOpen or Damaged.
+pub fn closed(v: &[u8], places: &mut [u16; 28672], marks: &mut [u8; 4096]) -> Answer
+    requires { ⌜ (length (now places) ≡ 28672) × (now marks ≡ replicate 4096 0) ⌝ }
+    ensures { λ r. ⌜ Gated (now (v .entry)) (closedChecks (length (now (v .entry))) (word (now (v .entry)))) r (now (places .exit)) (now (marks .exit)) ⌝ }
+{
+    let answer = judged(v, places, marks);
+    let Answer::Number(count) = answer else {
+        return answer;
+    };
+    if journal::is_open(v) {
+        return Answer::JournalOpen;
+    }
+    Answer::Number(count)
+}

@@ -1,0 +1,94 @@
+// The calls of crate volume for programs on the host: tests, benchmarks and the office's tools. Each has its answer as
+// one number: the call's number, 0 where it has none, or minus the number of the refusal. A slice is a pointer and then
+// a length in C:
+//     int64_t volume_format(uint8_t *volume, size_t volume_len, uint64_t pages, uint64_t inodes);
+//     int64_t volume_carry_out(uint8_t *volume, size_t volume_len, const uint64_t *list, size_t list_len, uint64_t count);
+//     int64_t volume_find(const uint8_t *volume, size_t volume_len, const uint8_t *name, size_t name_len);
+//     int64_t volume_size(const uint8_t *volume, size_t volume_len, uint64_t inode);
+//     int64_t volume_read(const uint8_t *volume, size_t volume_len, uint64_t inode, uint64_t offset,
+//         uint8_t *buffer, size_t buffer_len);
+//     int64_t volume_kth_name(const uint8_t *volume, size_t volume_len, uint64_t k, uint8_t *buffer, size_t buffer_len);
+//     int64_t volume_free_count(const uint8_t *volume, size_t volume_len);
+// find, size and read hand on to crate firmware: a static library exports the functions of its own crate alone.
+ghost use mathlib.Core.Path.{_≡_};
+ghost use Rattle.model.specs.Public.{formatAnswer, formatVolume, carryAnswer, carryVolume, findAnswer, sizeAnswer};
+ghost use Rattle.model.specs.Public.{readAnswer, readBuffer, kthNameAnswer, kthNameBuffer, freeAnswer};
+ghost use Rattle.answer.specs.Meaning.{plain, numbered, codeOf};
+
+// Makes the bytes a new volume with so many pages and inodes, an empty directory and no files. Answers 0, or minus the
+// number of the refusal, 2 no volume, where a volume may not have these sizes or the bytes are not that many pages; they
+// are then left as they were.
+// Example: of 8,192 bytes 16 pages and 8 inodes answer 0, and 17 pages and 8 inodes -2.
+#[no_mangle]
+pub extern "C" fn volume_format(volume: &mut [u8], pages: u64, inodes: u64) -> i64
+    ensures answer { λ r. ⌜ r ≡ codeOf (plain (formatAnswer (now (volume .entry)) pages inodes)) ⌝ }
+    ensures bytes { λ _. ⌜ now (volume .exit) ≡ formatVolume (now (volume .entry)) pages inodes ⌝ }
+{
+    answer::code(volume::format(volume, pages, inodes))
+}
+
+// Carries out the first count words of a list as a store list. Answers 0, or minus the number of the refusal: 2 no
+// volume, 13 bad list; every byte is then left as it was.
+// Example: of the list 66, 1088, 2^64-1, 0 a count of 4 answers 0 and makes word 66 1088; counts of 2, 3 and 6 answer
+// -13.
+#[no_mangle]
+pub extern "C" fn volume_carry_out(volume: &mut [u8], list: &[u64], count: u64) -> i64
+    ensures answer { λ r. ⌜ r ≡ codeOf (plain (carryAnswer (now (volume .entry)) (now (list .entry)) count)) ⌝ }
+    ensures bytes { λ _. ⌜ now (volume .exit) ≡ carryVolume (now (volume .entry)) (now (list .entry)) count ⌝ }
+{
+    answer::code(volume::carry_out(volume, list, count))
+}
+
+// Looks a name up and answers its inode, or minus the number of the refusal: 2 no volume, 3 damaged, 4 journal open,
+// 5 bad name, 6 not there.
+// Example: where the name "A1" leads to inode 1, the name "A1" answers 1, "A2" -6 and the empty name -5.
+#[no_mangle]
+pub extern "C" fn volume_find(volume: &[u8], name: &[u8]) -> i64
+    ensures { λ r. ⌜ r ≡ codeOf (numbered (findAnswer (now (volume .entry)) (now (name .entry)))) ⌝ }
+{
+    firmware::volume_find(volume, name)
+}
+
+// Answers the size of a file in bytes, or minus the number of the refusal: 2 no volume, 3 damaged, 4 journal open,
+// 6 not there.
+// Example: where inode 1 is a file of 514 bytes, inode 1 answers 514 and inode 0 -6.
+#[no_mangle]
+pub extern "C" fn volume_size(volume: &[u8], inode: u64) -> i64
+    ensures { λ r. ⌜ r ≡ codeOf (numbered (sizeAnswer (now (volume .entry)) inode)) ⌝ }
+{
+    firmware::volume_size(volume, inode)
+}
+
+// Lays a file's bytes from an offset on into a buffer, as many as the file has there and the buffer holds, and answers
+// their count, or minus the number of the refusal: 2 no volume, 3 damaged, 4 journal open, 6 not there. The rest of the
+// buffer keeps its bytes, and of a refusal all of it.
+// Example: where inode 1 is a file of 514 bytes, offset 510 and a buffer of 16 bytes answer 4 and fill the first 4;
+// offset 514 answers 0, and inode 0 -6.
+#[no_mangle]
+pub extern "C" fn volume_read(volume: &[u8], inode: u64, offset: u64, buffer: &mut [u8]) -> i64
+    ensures { λ r. ⌜ (r ≡ codeOf (numbered (readAnswer (now (volume .entry)) inode offset (now (buffer .entry)))))
+        × (now (buffer .exit) ≡ readBuffer (now (volume .entry)) inode offset (now (buffer .entry))) ⌝ }
+{
+    firmware::volume_read(volume, inode, offset, buffer)
+}
+
+// Lays the k-th name, counted from 0, into the first 32 bytes of a buffer, zeros after it, and answers its length, or
+// minus the number of the refusal: 1 short memory, 2 no volume, 3 damaged, 4 journal open, 6 not there; the buffer is
+// then left as it was.
+// Example: where "A1" is the only name, k 0 answers 2 and makes the buffer begin with 65, 49 and 30 zeros; k 1 answers -6.
+#[no_mangle]
+pub extern "C" fn volume_kth_name(volume: &[u8], k: u64, buffer: &mut [u8]) -> i64
+    ensures { λ r. ⌜ (r ≡ codeOf (numbered (kthNameAnswer (now (volume .entry)) k (now (buffer .entry)))))
+        × (now (buffer .exit) ≡ kthNameBuffer (now (volume .entry)) k (now (buffer .entry))) ⌝ }
+{
+    answer::code(volume::kth_name(volume, k, buffer))
+}
+
+// Answers the count of free pages, or minus the number of the refusal: 2 no volume, 3 damaged, 4 journal open.
+// Example: of 16 pages just formatted with 8 inodes it answers 14.
+#[no_mangle]
+pub extern "C" fn volume_free_count(volume: &[u8]) -> i64
+    ensures { λ r. ⌜ r ≡ codeOf (numbered (freeAnswer (now (volume .entry)))) ⌝ }
+{
+    answer::code(volume::free_count(volume))
+}

@@ -1,0 +1,2 @@
+-- The cases of the loops over pairs.
+mod Pairs

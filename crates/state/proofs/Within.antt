@@ -1,0 +1,59 @@
+-- For callers: a file of an accepted volume is at most 65,536 bytes long, its data pages lie inside the volume, and its bytes are those of
+-- the volume as it stands, since the journal is closed.
+use Prim.Native.Nat.{ℕ, _*_, _≤_, _<_}
+use mathlib.Core.Path.{_≡_, refl, sym, _∙_, ap}
+use mathlib.Core.Bool.{true, false, not, _||_}
+use mathlib.Core.List.{List}
+use native.Mathlib.Omega.{arith}
+use borrow.Author.Tests.{ne-eqb}
+use lib.Dec.{leb}
+use lib.ListN.{length}
+use Rattle.model.specs.Words.{Mem, word}
+use Rattle.model.specs.Journal.{journalOk, view}
+use Rattle.model.specs.Log.{entries}
+use Rattle.model.specs.State.{File, fileOf}
+use Rattle.model.specs.Accept.{isFile, logOk, viewOk, accepted}
+use Rattle.model.specs.Calls.{noFile}
+use Rattle.model.proofs.Tests.{and-right, ands}
+use Rattle.model.proofs.State.Bytes.{small-file}
+use Rattle.model.proofs.Frame.Inode.{file-placed}
+use Rattle.model.proofs.Crash.Journal.{closed-view}
+use Rattle.model.proofs.Crash.Landing.{volume-parts, sizes-parts}
+use Rattle.files.specs.State.{fileFrom}
+use Rattle.contents.specs.Laid.{Within}
+use Rattle.contents.proofs.Pages.{placed-within}
+use Rattle.answer.specs.declared.Answer.{Answer}
+use Rattle.answer.specs.declared.Answer.the-variants.{Number}
+use Rattle.state.specs.Stated.{FileState, Stated}
+use Rattle.state.proofs.Sizes.{there-below, there-file-0, there-valid, file-log}
+
+-- the size of a file whose log is good
+good-small : (u : Mem) (P N k : ℕ) → (k ≡ 0 → ⊥) → logOk u P N k ≡ true → fileOf u P N k .size ≤ 65536
+unfolding logOk fileOf
+good-small u P N k c h = let g = rw (ne-eqb k 0 c) at h in small-file P N (entries u P N k) (search ands)
+
+module _ (v : List ℕ) (k : ℕ) (r : Answer) (marks t : List ℕ) (a : Stated v k r marks t) (s : ℕ) (e : r ≡ Number s) where
+  f : FileState v k s marks t
+  f = a .state s e
+
+  is-file : leb (word v 1) k || not (isFile (view (word v)) k) ≡ false
+  unfolding noFile
+  is-file = f .there
+
+  above : k ≡ 0 → ⊥
+  above z = let h = there-file-0 (view (word v)) (word v 1) k is-file in absurd (omega arith)
+
+  good-log : logOk (view (word v)) (word v 0) (word v 1) k ≡ true
+  unfolding accepted
+  good-log =
+      let w : viewOk (view (word v)) (word v 0) (word v 1) ≡ true = and-right (journalOk (word v) (word v 1)) _ (f .good) in
+      file-log (view (word v)) (word v 0) (word v 1) k w (there-below (view (word v)) (word v 1) k is-file) (there-valid (view (word v)) (word v 1) k is-file)
+
+  pub state-small : s ≤ 65536
+  state-small = rw (ap (λ (x : File). x .size) (f .file)) (good-small (view (word v)) (word v 0) (word v 1) k above good-log)
+
+  pub state-within : Within (length v) t
+  state-within =
+      let p = volume-parts (length v) (word v) (f .volume) in
+      let z = sizes-parts (word v 0) (word v 1) (p .sizes) in
+      placed-within (word v 0) (word v 1) s (length v) t _ (file-placed (view (word v)) (word v 0) (word v 1) k good-log above) (f .file) (omega arith) (p .bytes)

@@ -1,0 +1,55 @@
+// The state of one file of a volume that is judged first: its size and its data pages. v is the volume.
+ghost use mathlib.Core.Path.{_≡_};
+ghost use mathlib.Core.Bool.{not, _||_};
+ghost use lib.Dec.{leb};
+ghost use lib.ListN.{length, replicate};
+ghost use Rattle.model.specs.Words.{word};
+ghost use Rattle.model.specs.Journal.{view};
+ghost use Rattle.model.specs.Accept.{isFile};
+ghost use Rattle.names.specs.Inodes.{Readable};
+ghost use Rattle.state.specs.Stated.{Stated};
+use answer::Answer;
+
+// Answers whether an inode is none of a file: out of range, the directory's, or not valid.
+// Example: of a volume just formatted with 8 inodes it is true of every number.
+fn no_file(v: &[u8], inode: u64, inodes: u64) -> bool
+    requires { ⌜ Readable (word (now v)) (length (now v)) inodes ⌝ }
+    ensures { λ r. ⌜ r ≡ leb inodes inode || not (isFile (view (word (now (v .entry)))) inode) ⌝ }
+{
+    if inodes <= inode {
+        return true;
+    }
+    if inode == 0 {
+        return true;
+    }
+    if journal::viewed(v, 64 + 8 * (inode as usize)) == 1 {
+        return false;
+    }
+    true
+}
+
+// Judges a volume, its journal and an inode, and reads the state of the inode's file: table gets its data pages, 0 for a file page
+// that is unmapped, and marks, which must be zeros, a 1 for each page in use. Answers Number with the file's size, NoVolume, Damaged,
+// JournalOpen, or NotThere where the inode is none of a file. Where it answers no number, the tables hold anything.
+// Example: where inode 1 is a file of 514 bytes on pages 3 and 4, file(v, 1, marks, table) is Number(514), table starts with 3, 4 and
+// 0, and file(v, 0, marks, table) is NotThere.
+pub fn file(v: &[u8], inode: u64, marks: &mut [u8; 4096], table: &mut [u64; 128]) -> Answer
+    requires { ⌜ (now marks ≡ replicate 4096 0) × (now table ≡ replicate 128 0) ⌝ }
+    ensures { λ r. ⌜ Stated (now (v .entry)) inode r (now (marks .exit)) (now (table .exit)) ⌝ }
+{
+    let mut places = [0u16; 28672];
+    let gate = gate::closed(v, &mut places, marks);
+    let Answer::Number(_) = gate else {
+        return gate;
+    };
+    let pages = words::word_at(v, header::PAGES_WORD);
+    let inodes = words::word_at(v, header::INODES_WORD);
+    if no_file(v, inode, inodes) {
+        return Answer::NotThere;
+    }
+    let state = files::file_state(v, inode as usize, pages as usize, inodes as usize, table);
+    match state {
+        files::Folded::Size(n) => Answer::Number(n),
+        files::Folded::Bad => Answer::Damaged,
+    }
+}
