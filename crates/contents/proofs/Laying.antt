@@ -1,11 +1,12 @@
--- Laws of values laid into a list, by induction on their count: turn by turn, in two parts, and from the list's start on.
+-- Laws of values laid into a list, by induction on their count: turn by turn, in two parts, element by element, and from the list's start on.
 use Prim.Native.Nat.{ℕ, zero, suc, _+_, _-_, _≤_, _<_}
 use mathlib.Core.Path.{_≡_, refl, _∙_, ap}
 use mathlib.Core.List.{List, [], _∷_, _++_}
 use native.Mathlib.Omega.{arith}
 use native.Mathlib.Nat.{add-zero, zero-add}
 use native.Mathlib.Numerals.{sub-one}
-use lib.ListN.{length, set, drop}
+use lib.ListN.{length, set, drop, getD, length-set}
+use lib.Seq.{getD-set-same, getD-set-other}
 use Rattle.model.specs.Lists.{valuesFrom}
 use Rattle.contents.specs.Laid.{laid}
 
@@ -16,6 +17,10 @@ module _ (f : ℕ → ℕ) (l : List ℕ) (i x : ℕ) where
   unfolding laid
   laid-next zero y z a h e = absurd (omega arith)
   laid-next (suc n) y z a h e = rw (e, sub-one) a
+
+  -- the same where a callee stored the value: l′ is what it left
+  pub laid-put : (n y : ℕ) (l′ z : List ℕ) → laid l i f x n ≡ z → 0 < n → y ≡ f x → l′ ≡ set l i y → laid l′ (i + 1) f (x + 1) (n - 1) ≡ z
+  laid-put n y l′ z a h e g = rw g (laid-next n y z a h e)
 
   pub laid-end : (n : ℕ) (z : List ℕ) → laid l i f x n ≡ z → n ≤ 0 → l ≡ z
   unfolding laid
@@ -43,6 +48,34 @@ laid-both f (suc a) b l i x =
     let p : i + suc a ≡ i + 1 + a = omega arith in
     let q : x + suc a ≡ x + 1 + a = omega arith in
     let r : suc a + b ≡ suc (a + b) = omega arith in rw (p, q, r) (laid-both f a b (set l i (f x)) (i + 1) (x + 1))
+
+-- What stands in the list afterwards, at index k: a value that was laid there, or what stood there before.
+
+pub laid-length : (f : ℕ → ℕ) (n : ℕ) (l : List ℕ) (i x : ℕ) → length (laid l i f x n) ≡ length l
+unfolding laid
+laid-length f zero l i x = refl
+laid-length f (suc n) l i x = laid-length f n (set l i (f x)) (i + 1) (x + 1) ∙ length-set l i (f x)
+
+pub laid-beside : (f : ℕ → ℕ) (n : ℕ) (l : List ℕ) (i x k : ℕ) → (i ≤ k → k < i + n → ⊥) → getD (laid l i f x n) k 0 ≡ getD l k 0
+unfolding laid
+laid-beside f zero l i x k h = refl
+laid-beside f (suc n) l i x k h =
+    laid-beside f n (set l i (f x)) (i + 1) (x + 1) k (λ a b. h (omega arith) (omega arith))
+    ∙ getD-set-other l i k (f x) 0 (λ e. h (omega arith) (omega arith))
+
+pub laid-at : (f : ℕ → ℕ) (n : ℕ) (l : List ℕ) (i x k : ℕ) → i + n ≤ length l → k < n → getD (laid l i f x n) (i + k) 0 ≡ f (x + k)
+unfolding laid
+laid-at f zero l i x k h g = absurd (omega arith)
+laid-at f (suc n) l i x zero h g =
+    rw (add-zero i, add-zero x) (laid-beside f n (set l i (f x)) (i + 1) (x + 1) i (λ a b. omega arith) ∙ getD-set-same l i (f x) 0 (omega arith))
+laid-at f (suc n) l i x (suc k) h g =
+    let p : i + suc k ≡ i + 1 + k = omega arith in
+    let q : x + suc k ≡ x + 1 + k = omega arith in
+    rw (p, q) (laid-at f n (set l i (f x)) (i + 1) (x + 1) k (rw length-set (omega arith)) (omega arith))
+
+-- the same of values laid from the list's start on; l′ is the list afterwards
+pub laid-front : (f : ℕ → ℕ) (n : ℕ) (l l′ : List ℕ) (x k : ℕ) → l′ ≡ laid l 0 f x n → n ≤ length l → k < n → getD l′ k 0 ≡ f (x + k)
+laid-front f n l l′ x k e h g = ap (λ (r : List ℕ). getD r k 0) e ∙ (rw (zero-add k) at (laid-at f n l 0 x k (omega arith) g))
 
 -- behind the first element
 laid-behind : (f : ℕ → ℕ) (n y : ℕ) (l : List ℕ) (i x : ℕ) → laid (y ∷ l) (suc i) f x n ≡ y ∷ laid l i f x n

@@ -26,7 +26,7 @@ fn least(a: usize, b: usize) -> usize
 
 // Lays the volume's bytes at, at + 1, .. into the buffer, from index from on: n bytes. Answers nothing.
 // Example: lay_bytes(v, 7680, buffer, 4, 2) makes byte 4 of the buffer byte 7680 of the volume, and byte 5 byte 7681.
-fn lay_bytes(v: &[u8], at: usize, buffer: &mut [u8], from: usize, n: usize)
+pub fn lay_bytes(v: &[u8], at: usize, buffer: &mut [u8], from: usize, n: usize)
     requires { ⌜ (at + n ≤ length (now v)) × (from + n ≤ length (now buffer)) ⌝ }
     ensures { λ _. ⌜ now (buffer .exit) ≡ laid (now (buffer .entry)) from (byteAt (word (now (v .entry)))) at n ⌝ }
 {
@@ -74,7 +74,7 @@ fn lay_piece(v: &[u8], d: usize, o: usize, buffer: &mut [u8], from: usize, n: us
 // Lays a file's bytes start, start + 1, .. into the buffer, from its first byte on: count bytes, a file page at a time.
 // Answers nothing.
 // Example: lay_file(v, table, 1020, buffer, 80) lays 4 bytes of file page 1, then 76 bytes of file page 2.
-fn lay_file(v: &[u8], table: &[u64; 128], start: usize, buffer: &mut [u8], count: usize)
+pub fn lay_file(v: &[u8], table: &[u64; 128], start: usize, buffer: &mut [u8], count: usize)
     requires { ⌜ Within (length (now v)) (now table) × (start + count ≤ 65536) × (count ≤ length (now buffer)) ⌝ }
     ensures { λ _. ⌜ now (buffer .exit) ≡ laid (now (buffer .entry)) 0 (tableByte (word (now (v .entry))) (now (table .entry))) start count ⌝ }
 {

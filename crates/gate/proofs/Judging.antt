@@ -1,11 +1,11 @@
 -- The judge's answer is the second check and its count that of the directory's names; an open journal is the third check.
-use Prim.Native.Nat.{ℕ}
+use Prim.Native.Nat.{ℕ, _≤_, _<_}
 use mathlib.Core.Path.{_≡_, refl, sym, _∙_}
 use mathlib.Core.Bool.{Bool, true, false, not}
 use mathlib.Core.List.{List, [], _∷_}
 use mathlib.Core.Option.{some}
 use native.Mathlib.Omega.{arith}
-use borrow.Author.Tests.{not-true, not-false}
+use borrow.Author.Tests.{lt-ltb, le-ltb, not-true, not-false}
 use lib.ListN.{length}
 use Rattle.model.specs.Words.{word}
 use Rattle.model.specs.Journal.{isOpen}
@@ -16,8 +16,8 @@ use Rattle.survey.specs.declared.Found.{Found}
 use Rattle.survey.specs.Surveyed.{Surveyed}
 use Rattle.answer.specs.Meaning.{meaning, numbered}
 use Rattle.answer.specs.declared.Answer.{Answer}
-use Rattle.answer.specs.declared.Answer.the-variants.{Number, NoVolume, Damaged, JournalOpen}
-use Rattle.gate.specs.Gated.{rootNames, Tables, Gated}
+use Rattle.answer.specs.declared.Answer.the-variants.{Number, ShortMemory, NoVolume, Damaged, JournalOpen}
+use Rattle.gate.specs.Gated.{rootNames, fillChecks, Tables, Gated}
 use Rattle.gate.proofs.Gates.{NoNumber, gate-refused, gate-passed, same-number}
 
 -- f is what `is_volume` answered of v
@@ -89,3 +89,18 @@ module _ (v : List ℕ) (r : Answer) (places marks : List ℕ) (g : Gated v (vol
           answer = rw (passed, ← b, y, same-number (volumeChecks (length v) (word v)) _ n (rw e at (g .answer)));
           tables = λ k z. g .tables k (e ∙ z);
         }
+
+-- A list to be filled: l is its length, and g what `closed` answered and left of v.
+module _ (v : List ℕ) (l : ℕ) where
+  pub short-list : (places marks : List ℕ) → l < 4096 → Gated v (fillChecks (length v) (word v) l) ShortMemory places marks
+  unfolding fillChecks
+  short-list places marks h =
+      record {
+        answer = rw (lt-ltb l 4096 h);
+        tables = λ n e. let q : _≡_ {A = ℕ} 0 1 = cc in absurd (omega arith);
+      }
+
+  pub long-list : (r : Answer) (places marks : List ℕ) → 4096 ≤ l → Gated v (closedChecks (length v) (word v)) r places marks
+      → Gated v (fillChecks (length v) (word v) l) r places marks
+  unfolding fillChecks
+  long-list r places marks h g = record { answer = rw (le-ltb l 4096 h) (g .answer); tables = g .tables }

@@ -2,15 +2,16 @@
 use Prim.Native.Nat.{ℕ}
 use mathlib.Core.Path.{_≡_}
 use mathlib.Core.Bool.{true}
-use mathlib.Core.List.{List}
+use mathlib.Core.List.{List, _∷_}
+use lib.Dec.{ltb}
 use lib.ListN.{length, take}
-use Rattle.model.specs.Words.{word}
-use Rattle.model.specs.Layout.{root}
+use Rattle.model.specs.Words.{Mem, word}
+use Rattle.model.specs.Layout.{root, listWords}
 use Rattle.model.specs.Journal.{view}
 use Rattle.model.specs.State.{Names, namesOf}
 use Rattle.model.specs.Accept.{accepted}
-use Rattle.model.specs.Answer.{done, Checks, firstRefusal}
-use Rattle.model.specs.Public.{isVolume}
+use Rattle.model.specs.Answer.{done, Checks, firstRefusal, shortMemory}
+use Rattle.model.specs.Public.{isVolume, closedChecks}
 use Rattle.names.specs.Places.{standing, Filled}
 use Rattle.inodes.specs.Judged.{Served}
 use Rattle.answer.specs.Meaning.{meaning, numbered}
@@ -20,6 +21,10 @@ use Rattle.answer.specs.declared.Answer.the-variants.{Number}
 -- the names of the directory of the volume v
 abbrev pub rootNames : List ℕ → Names
 rootNames v = namesOf (view (word v)) (word v 0) (word v 1) root
+
+-- 1 to 4 of a call that fills a store list of l words: every such call but recover
+unfoldable pub fillChecks : ℕ → Mem → ℕ → Checks
+fillChecks len m l = (ltb l listWords, shortMemory) ∷ closedChecks len m
 
 -- v is an accepted volume with n names; the first places are those of its names, and the marks those of its pages in use.
 pub record Tables (v : List ℕ) (n : ℕ) (places marks : List ℕ) : Type 0 where

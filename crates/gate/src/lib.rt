@@ -4,8 +4,11 @@ ghost use mathlib.Core.Path.{_≡_};
 ghost use lib.ListN.{length, replicate};
 ghost use Rattle.model.specs.Words.{word};
 ghost use Rattle.model.specs.Public.{volumeChecks, closedChecks};
-ghost use Rattle.gate.specs.Gated.{Gated};
+ghost use Rattle.gate.specs.Gated.{fillChecks, Gated};
 use answer::Answer;
+
+// The words that a store list to be filled has at least.
+const LIST_WORDS: usize = 4096;
 
 // Judges a volume and fills the tables; marks must be zeros. Answers Number with its count of names, NoVolume or Damaged. Where it
 // answers no number, the tables hold anything.
@@ -39,4 +42,17 @@ pub fn closed(v: &[u8], places: &mut [u16; 28672], marks: &mut [u8; 4096]) -> An
         return Answer::JournalOpen;
     }
     Answer::Number(count)
+}
+
+// Asks what every call that fills a store list asks first, recover apart: that the list has 4,096 words or more, and then what `closed`
+// asks. Answers Number with the count of names, ShortMemory, NoVolume, Damaged or JournalOpen, and fills the tables as `judged` does.
+// Example: of a volume just formatted filling(v, 4096, places, marks) is Number(0) and filling(v, 4095, places, marks) ShortMemory.
+pub fn filling(v: &[u8], words: usize, places: &mut [u16; 28672], marks: &mut [u8; 4096]) -> Answer
+    requires { ⌜ (length (now places) ≡ 28672) × (now marks ≡ replicate 4096 0) ⌝ }
+    ensures { λ r. ⌜ Gated (now (v .entry)) (fillChecks (length (now (v .entry))) (word (now (v .entry))) words) r (now (places .exit)) (now (marks .exit)) ⌝ }
+{
+    if words < LIST_WORDS {
+        return Answer::ShortMemory;
+    }
+    closed(v, places, marks)
 }

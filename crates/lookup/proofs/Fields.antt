@@ -23,7 +23,7 @@ take-values f x zero (suc k) h = absurd (omega arith)
 take-values f x (suc n) (suc k) h = ap (λ (r : List ℕ). f x ∷ r) (take-values f (x + 1) n k (omega arith))
 
 -- a field that is as it should be is its name, filled up with zeros
-field-is : (l : ℕ) (f : List ℕ) → fieldOk l f ≡ true → length f ≡ 32 → f ≡ padded (take l f)
+pub field-is : (l : ℕ) (f : List ℕ) → fieldOk l f ≡ true → length f ≡ 32 → f ≡ padded (take l f)
 unfolding fieldOk
 field-is l f ok h =
     let k : l ≤ 32 = leb-true l 32 (search ands) in

@@ -1,4 +1,5 @@
--- Places has the law for crates above: a place of a table is one that `lay_name` takes. Bytes and Fields serve this crate alone.
+-- For crates above: Fields has the law that a name field is its name and zeros, Places that a place of a table is one that
+-- `lay_name` takes. Bytes serves this crate alone.
 mod Bytes
-mod Fields
+pub mod Fields
 pub mod Places

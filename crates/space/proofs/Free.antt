@@ -13,9 +13,9 @@ use Rattle.model.specs.Lists.{allBelow, lowest, lowestFew, isSome, orElse}
 use Rattle.model.specs.Words.{Mem}
 use Rattle.model.specs.Accept.{free}
 use Rattle.model.specs.Calls.{pagesFor, Append, lowestRun, logPagesBeside, dataStart, freshPages, freshLog, noRoom, cleanEntries, cleanPages}
-use Rattle.model.proofs.Tests.{by-bool, by-eq, outside}
+use Rattle.model.proofs.Tests.{by-bool, by-eq, and-left, outside}
 use Rattle.model.proofs.Lists.{lowest-is, allBelow-at}
-use Rattle.model.proofs.Calls.Room.{free-bounds}
+use Rattle.model.proofs.Frame.Placed.{in-bounds}
 use Rattle.marks.specs.Marks.{unmarked}
 use Rattle.inodes.specs.Judged.{Served}
 use Rattle.inodes.proofs.Once.{free-page}
@@ -42,6 +42,16 @@ none-at (some k) P r e l q = let h = l k refl in absurd (omega arith)
 some-at : (o : Option ℕ) (P r : ℕ) → r ≡ orElse o P → (r ≡ P → ⊥) → o ≡ some r
 some-at none P r e q = absurd (q e)
 some-at (some k) P r e q = ap some (sym e)
+
+-- A run lies in the volume: r is what `lowest_run` answered of n pages.
+pub run-fits : (b : List ℕ) (P N n r : ℕ) → r ≡ orElse (unmarkedRun b P N n) P → (r ≡ P → ⊥) → r + n ≤ P
+unfolding unmarkedRun isRun unmarked
+run-fits b P N n r e q =
+    let l = lowest-is (isRun b P N n) P 0 r (some-at _ P r e q) in
+    by-eq n 0 (λ z. omega (arith, l .below))
+    (λ z.
+    let f = allBelow-at n (n - 1) (λ i. unmarked b P N (r + i)) (l .holds) (omega arith) in
+    omega (arith, in-bounds P N (r + (n - 1)) (and-left _ _ f) .1))
 
 module _ (u : Mem) (P N : ℕ) (b : List ℕ) (low : P ≤ 4096) (s : Served u P N true b) where
   unmarked-pages : unmarked b P N ≡ free u P N
@@ -71,15 +81,6 @@ module _ (u : Mem) (P N : ℕ) (b : List ℕ) (low : P ≤ 4096) (s : Served u P
 
     pub run-some : (r ≡ P → ⊥) → lowestRun u P N n ≡ some r
     run-some q = some-at _ P r is-lowest q
-
-    pub run-fits : (r ≡ P → ⊥) → r + n ≤ P
-    unfolding lowestRun
-    run-fits q =
-        let l = lowest-is (λ p. allBelow n (λ i. free u P N (p + i))) P 0 r (run-some q) in
-        by-eq n 0 (λ z. omega (arith, l .below))
-        (λ z.
-        let f = allBelow-at n (n - 1) (λ i. free u P N (r + i)) (l .holds) (omega arith) in
-        omega (arith, free-bounds u P N (r + (n - 1)) f .1))
 
     -- An append with n data pages. m fresh log pages were asked for beside the run, k is what `lowest_pages` answered, and
     -- it left t′ of the table t.

@@ -28,7 +28,7 @@ use Rattle.state.specs.Stated.{FileState, Stated}
 use Rattle.state.proofs.Sizes.{there-below, there-file-0, there-valid, file-log}
 
 -- the size of a file whose log is good
-good-small : (u : Mem) (P N k : ℕ) → (k ≡ 0 → ⊥) → logOk u P N k ≡ true → fileOf u P N k .size ≤ 65536
+pub good-small : (u : Mem) (P N k : ℕ) → (k ≡ 0 → ⊥) → logOk u P N k ≡ true → fileOf u P N k .size ≤ 65536
 unfolding logOk fileOf
 good-small u P N k c h = let g = rw (ne-eqb k 0 c) at h in small-file P N (entries u P N k) (search ands)
 

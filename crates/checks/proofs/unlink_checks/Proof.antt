@@ -1,0 +1,15 @@
+-- Each answer is one case of the checks.
+use borrow.Author.Needs.{needs}
+use Rattle.checks.proofs.Cases.{unlink-bad, unlink-absent, unlink-is}
+use Rattle.checks.proofs.unlink_checks.Statement.{statement}
+use Rattle.checks.proofs.unlink_checks.Tie as tie
+
+pub unlink-checks-spec : {M : Type 1} → statement M
+unlink-checks-spec =
+    tie.close
+    (tie.spec
+    (λ c κs. search needs)
+    (λ c. search (unlink-bad, needs))
+    (λ c κs. search needs)
+    (λ c. search (unlink-absent, needs))
+    (λ c. search (unlink-is, needs)))

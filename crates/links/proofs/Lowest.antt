@@ -1,0 +1,55 @@
+-- The lowest invalid inode: the search from inode k on is the test of k, and the search from the next on.
+use Prim.Native.Nat.{ℕ, suc, _+_, _-_, _*_, _≤_, _<_}
+use mathlib.Core.Path.{_≡_, refl, sym, _∙_}
+use mathlib.Core.Bool.{true, false, not}
+use mathlib.Core.Option.{Option, none, some}
+use native.Mathlib.Omega.{arith}
+use lib.Dec.{eqb}
+use borrow.Author.Tests.{eq-eqb, ne-eqb}
+use Rattle.model.specs.Lists.{lowest, isSome, orElse}
+use Rattle.model.specs.Words.{Mem}
+use Rattle.model.specs.Accept.{isValid}
+use Rattle.model.specs.Calls.{invalidInode}
+use Rattle.model.proofs.Lists.{lowest-is}
+
+-- the lowest invalid inode from k on, of N inodes
+abbrev pub invalidFrom : Mem → ℕ → ℕ → Option ℕ
+invalidFrom u N k = lowest (λ j. not (isValid u j)) (N - k) k
+
+-- The loop of `free_inode`: x is the valid word of inode k as the code read it, z what the whole search finds.
+module _ (u : Mem) (N k x : ℕ) (z : Option ℕ) (l : k < N) (e : x ≡ u (64 + 8 * k)) (a : invalidFrom u N k ≡ z) where
+  more : N - k ≡ suc (N - (k + 1))
+  more = omega arith
+
+  pub invalid-here : (x ≡ 1 → ⊥) → k ≡ orElse z 0
+  unfolding lowest
+  invalid-here h = let v : isValid u k ≡ false = ne-eqb (u (64 + 8 * k)) 1 (λ y. h (e ∙ y)) in rw (← a, more, lowest, v)
+
+  pub invalid-next : x ≡ 1 → invalidFrom u N (k + 1) ≡ z
+  unfolding lowest
+  invalid-next h = let v : isValid u k ≡ true = eq-eqb (u (64 + 8 * k)) 1 (sym e ∙ h) in rw (more, lowest, v) at a
+
+pub invalid-none : (u : Mem) (N k : ℕ) (z : Option ℕ) → N ≤ k → invalidFrom u N k ≡ z → 0 ≡ orElse z 0
+unfolding lowest
+invalid-none u N k z l a = let o : N - k ≡ 0 = omega arith in rw (← a, o)
+
+-- For callers: r is what `free_inode` answered.
+module _ (u : Mem) (P N r : ℕ) (e : r ≡ orElse (invalidFrom u N 1) 0) where
+  pub inode-is : r ≡ orElse (invalidInode u P N) 0
+  unfolding invalidInode
+  inode-is = e
+
+  pub inode-some : isSome (invalidInode u P N) ≡ not (eqb r 0)
+  unfolding invalidInode
+  inode-some = rw e (found (invalidFrom u N 1) (λ k h. let b = lowest-is (λ j. not (isValid u j)) (N - 1) 1 k h .from in omega arith))
+    where
+      found : (o : Option ℕ) → ((k : ℕ) → o ≡ some k → 0 < k) → isSome o ≡ not (eqb (orElse o 0) 0)
+      found none h = refl
+      found (some k) h = let b = h k refl in rw (ne-eqb k 0 (omega arith))
+
+  pub inode-below : (r ≡ 0 → ⊥) → r < N
+  inode-below h = below (invalidFrom u N 1) refl
+    where
+      below : (o : Option ℕ) → invalidFrom u N 1 ≡ o → r < N
+      below none q = absurd (h (rw q at e))
+      below (some k) q = let b = lowest-is (λ j. not (isValid u j)) (N - 1) 1 k q in let c : r ≡ k = rw q at e in omega (arith, b .below, b .from)

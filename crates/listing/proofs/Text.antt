@@ -1,0 +1,138 @@
+-- What a volume's listing is: the line of the refusal that the gate answers, or the text, read from the gate's tables.
+use Prim.Native.Nat.{ℕ, _+_, _*_, _≤_, _<_}
+use mathlib.Core.Path.{_≡_, refl, sym, _∙_, ap}
+use mathlib.Core.Bool.{true}
+use mathlib.Core.List.{List, [], _∷_, _++_}
+use mathlib.Core.Option.{Option, some}
+use native.Mathlib.Omega.{arith}
+use borrow.Author.Tests.{lt-ltb, le-ltb}
+use lib.ListN.{length, take, drop, length-append}
+use Rattle.model.specs.Words.{word}
+use Rattle.model.specs.Journal.{journalOk, view}
+use Rattle.model.specs.Accept.{freeCount, viewOk, accepted}
+use Rattle.model.specs.Answer as model
+use Rattle.model.specs.Answer.{refused, done, firstRefusal}
+use Rattle.model.specs.Public.{closedChecks}
+use Rattle.model.specs.Listing.{decimal, firstLine, refusalLine, nameLines, textOf, textOr, listingOf, listing}
+use Rattle.model.proofs.Tests.{and-right}
+use Rattle.model.proofs.Crash.Landing.{Sizes, volume-parts, sizes-parts}
+use Rattle.log.specs.Ready.{Ready}
+use Rattle.names.specs.Places.{standing, Filled}
+use Rattle.names.proofs.Table.{standing-length}
+use Rattle.inodes.specs.Judged.{unmarkedCount}
+use Rattle.inodes.proofs.Once.{free-count}
+use Rattle.answer.specs.Meaning.{meaning}
+use Rattle.answer.specs.declared.Answer.{Answer}
+use Rattle.answer.specs.declared.Answer.the-variants.{Number, NoVolume}
+use Rattle.gate.specs.Gated.{rootNames, Tables, Gated}
+use Rattle.gate.proofs.Gates.{NoNumber, refusal-of, same-refusal, none-refuses, gate-word-0, gate-word-1, gate-pages, gate-ready}
+use Rattle.stores.specs.Emitted.{Emitted}
+use Rattle.stores.proofs.Emitting.{emitted-both, emitted-parts}
+use Rattle.listing.specs.Lines.{refusalOf, AreFiles}
+use Rattle.listing.proofs.Files.{few-names, names-files}
+use Rattle.listing.proofs.Fits.{free-few, first-short, text-fits, listing-fits}
+
+-- The text of an accepted volume v with n names, by the gate's tables.
+module _ (v : List ℕ) (n : ℕ) (places marks : List ℕ) (t : Tables v n places marks) where
+  count-is : length (rootNames v) ≡ n
+  count-is = rw (← (t .names)) (standing-length (word v) (length v) places n (t .filled))
+
+  -- such tables are what a gate with no checks leaves
+  gated : Gated v [] (Number n) places marks
+  gated = record { answer = rw count-is; tables = λ k e. let q : n ≡ k = cc in rw (← q) t }
+
+  pub text-word-0 : 8 * 0 + 8 ≤ length v
+  text-word-0 = gate-word-0 v [] (Number n) places marks gated n refl
+
+  pub text-word-1 : 8 * 1 + 8 ≤ length v
+  text-word-1 = gate-word-1 v [] (Number n) places marks gated n refl
+
+  pub text-pages : (P : ℕ) → P ≡ word v 0 → P ≤ 4096
+  text-pages = gate-pages v [] (Number n) places marks gated n refl
+
+  sizes : Sizes (word v 0) (word v 1)
+  sizes = sizes-parts (word v 0) (word v 1) (volume-parts (length v) (word v) (t .volume) .sizes)
+
+  view-ok : viewOk (view (word v)) (word v 0) (word v 1) ≡ true
+  unfolding accepted
+  view-ok = and-right (journalOk (word v) (word v 1)) _ (t .good)
+
+  some-inodes : 0 < word v 1
+  some-inodes = let s = sizes .some-inodes in omega arith
+
+  -- P and N are the sizes as the code read them
+  module _ (P N : ℕ) (p : P ≡ word v 0) (q : N ≡ word v 1) where
+    pub text-ready : Ready (word v) (length v) P N
+    text-ready = gate-ready v [] (Number n) places marks gated n refl P N p q
+
+    pub text-files : AreFiles (view (word v)) P N (standing (word v) (take n places))
+    text-files = rw (p, q, t .names) (names-files (view (word v)) (word v 0) (word v 1) view-ok some-inodes)
+
+    -- f is what `free_count` answered
+    module _ (f : ℕ) (c : f ≡ unmarkedCount marks P N) where
+      free-is : freeCount (view (word v)) (word v 0) (word v 1) ≡ f
+      free-is =
+          let u : f ≡ unmarkedCount marks (word v 0) (word v 1) = rw (← p, ← q) c in
+          sym (free-count (view (word v)) (word v 0) (word v 1) true marks (sizes .most-pages) (t .served) refl f u)
+
+      pub first-room : 13 + length (decimal n) + length (decimal f) ≤ 9728
+      first-room =
+          let few : n ≤ 224 = rw (← count-is) (few-names (view (word v)) (word v 0) (word v 1) view-ok some-inodes) in
+          let free : f ≤ word v 0 = rw (← free-is) (free-few (view (word v)) (word v 0) (word v 1)) in
+          let most = sizes .most-pages in
+          let s = first-short n f few (omega arith) in omega arith
+
+      text-is : textOf (view (word v)) (word v 0) (word v 1) ≡ firstLine n f ++ nameLines (view (word v)) P N (standing (word v) (take n places))
+      unfolding textOf
+      text-is = rw (count-is, free-is, p, q, t .names)
+
+      -- the first line is put, and the text is m by now
+      module _ (l : List ℕ) (a : ℕ) (m : List ℕ) (e : Emitted l 0 (firstLine n f) a m) where
+        pub lines-room : a + length (nameLines (view (word v)) P N (standing (word v) (take n places))) ≤ 9728
+        lines-room =
+            let s = text-fits (view (word v)) (word v 0) (word v 1) view-ok (sizes .most-pages) some-inodes (sizes .most-inodes) in
+            let h = rw (text-is, length-append) at s in
+            let d = e .end in omega arith
+
+        pub text-put : (r : ℕ) (o : List ℕ) → Emitted m a (nameLines (view (word v)) P N (standing (word v) (take n places))) r o
+            → Emitted l 0 (textOf (view (word v)) (word v 0) (word v 1)) r o
+        text-put r o d = rw text-is (emitted-both e d)
+
+pub gate-tables : (v : List ℕ) (s : Answer) (places marks : List ℕ) → Gated v (closedChecks (length v) (word v)) s places marks → (n : ℕ) → s ≡ Number n
+    → Tables v n places marks
+gate-tables v s places marks g n e = g .tables n e
+
+-- The listing of v, put into the text l; m is the text afterwards.
+module _ (v : List ℕ) where
+  abbrev text : List ℕ
+  text = textOf (view (word v)) (word v 0) (word v 1)
+
+  behind : length v ≤ 65536 → listing v ≡ textOr (firstRefusal (closedChecks (length v) (word v)) (done text))
+  unfolding listing listingOf
+  behind h = rw (le-ltb 65536 (length v) h)
+
+  module _ (l : List ℕ) (r : ℕ) (m : List ℕ) where
+    pub long-put : (x : ℕ) → x ≡ refusalOf (meaning NoVolume) → 65536 < length v → Emitted l 0 (refusalLine x) r m → Emitted l 0 (listing v) r m
+    unfolding listing listingOf
+    long-put x e h q = rw (lt-ltb 65536 (length v) h, ← e) q
+
+    -- g is what the gate answered of v
+    module _ (h : length v ≤ 65536) (s : Answer) (places marks : List ℕ) (g : Gated v (closedChecks (length v) (word v)) s places marks) where
+      pub refused-put : (x : ℕ) → NoNumber s → x ≡ refusalOf (meaning s) → Emitted l 0 (refusalLine x) r m → Emitted l 0 (listing v) r m
+      refused-put x o e q =
+          let f : List ℕ → Option ℕ = λ y. some (length y) in
+          let all = firstRefusal (closedChecks (length v) (word v)) (done text) in
+          let same = same-refusal s (closedChecks (length v) (word v)) _ (g .answer) f (done text) o in
+          let k = refusal-of s all f (λ y. (length y, refl)) o same in
+          let z : x ≡ k .0 = e ∙ rw (← (k .1)) at (ap refusalOf same) in
+          rw (behind h, ← (k .1), ← z) q
+
+      pub passed-put : (n : ℕ) → s ≡ Number n → Emitted l 0 (textOf (view (word v)) (word v 0) (word v 1)) r m → Emitted l 0 (listing v) r m
+      passed-put n e q = rw (behind h, none-refuses (closedChecks (length v) (word v)) _ n (rw e at (g .answer)) (done text)) q
+
+    -- the text afterwards, by parts
+    pub listed : length l ≡ 9728 → Emitted l 0 (listing v) r m → (r ≡ length (listing v)) × (r ≤ 9728) × (m ≡ listing v ++ drop r l)
+    listed k e =
+        let f = listing-fits v in
+        let s = e .end in
+        (omega arith, omega arith, emitted-parts e (omega arith))

@@ -1,0 +1,15 @@
+-- The file's log is good, so that its state is what the log means.
+use borrow.Author.Needs.{needs}
+use Rattle.listing.proofs.Files.{size-is, size-good}
+use Rattle.listing.proofs.file_size.Statement.{statement}
+use Rattle.listing.proofs.file_size.Tie as tie
+
+pub file-size-spec : {M : Type 1} → statement M
+file-size-spec =
+    tie.close
+    (tie.spec
+    (λ c κs. search needs)
+    (λ c. search needs)
+    (λ c. search needs)
+    (λ c. search (size-is, needs))
+    (λ c. search (size-good, needs)))

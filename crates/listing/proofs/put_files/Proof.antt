@@ -1,0 +1,38 @@
+-- The loop's invariant: the lines of the names that are left, put from here on, give those of all, put from the start on.
+use Prim.Native.Nat.{_-_}
+use lib.ListN.{take}
+use lib.Seq.{slice}
+use borrow.Author.Needs.{needs}
+use Rattle.model.specs.Words.{word}
+use Rattle.model.specs.Journal.{view}
+use Rattle.model.specs.Listing.{nameLines}
+use Rattle.names.specs.Places.{standing}
+use Rattle.lookup.proofs.Places.{place-ok}
+use Rattle.stores.proofs.Emitting.{Rest, rest-all}
+use Rattle.listing.specs.Lines.{AreFiles}
+use Rattle.listing.proofs.Names.{here-file, next-files, here-room, next-lines, lines-end}
+use Rattle.listing.proofs.put_files.Statement.{statement}
+use Rattle.listing.proofs.put_files.Tie as tie
+
+abbrev Inv-loop : tie.InvT-loop
+Inv-loop text₀ at v places count pages inodes next₀ i₀ text next i =
+    AreFiles (view (word v)) pages inodes (standing (word v) (slice i count places))
+    × Rest text₀ at (nameLines (view (word v)) pages inodes (standing (word v) (take count places)))
+    text next (nameLines (view (word v)) pages inodes (standing (word v) (slice i count places)))
+
+abbrev μ-loop : tie.MeasureT-loop
+μ-loop text₀ at v places count pages inodes next₀ i₀ text next i = count - i
+
+pub put-files-spec : {M : Type 1} → statement M
+put-files-spec =
+    tie.close
+    (tie.spec
+    Inv-loop
+    μ-loop
+    (λ c. (search needs, search (rest-all, needs)))
+    (λ c κs. search needs)
+    (λ c κs. (search needs, search needs, search (place-ok, needs), search (here-file, needs), search (here-room, needs)))
+    (λ c. search needs)
+    (λ c. search needs)
+    (λ c. (search (next-files, needs), search (next-lines, needs)))
+    (λ c. search (lines-end, needs)))

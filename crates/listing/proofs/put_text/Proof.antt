@@ -1,0 +1,17 @@
+-- The sizes are read, the free pages counted, and the first line and those of the names put one after the other.
+use borrow.Author.Needs.{needs}
+use Rattle.gate.specs.Gated.{Tables}
+use Rattle.listing.proofs.Text.{text-word-0, text-word-1, text-pages, text-ready, text-files, first-room, lines-room, text-put}
+use Rattle.listing.proofs.put_text.Statement.{statement}
+use Rattle.listing.proofs.put_text.Tie as tie
+
+pub put-text-spec : {M : Type 1} → statement M
+put-text-spec =
+    tie.close
+    (tie.spec
+    (λ c κs. search (text-word-0, needs))
+    (λ c κs. search (text-word-1, needs))
+    (λ c κs. search (text-pages, needs))
+    (λ c κs. search (first-room, needs))
+    (λ c κs. (search (text-ready, needs), search needs, search (text-files, needs), search (lines-room, needs)))
+    (λ c. search (text-put, needs)))
