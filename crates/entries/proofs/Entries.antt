@@ -47,11 +47,11 @@ module _ (l m e : List ℕ) (n i : ℕ) (q : Laying l m e (8 * n) i) (h : length
   pub entry-put : Put l m n e
   entry-put = record { entries = entries-more n 0 (omega arith); long = q .long }
 
--- For callers: an entry that is put into a table of which nothing is known, and one behind entries that are known.
+-- For callers: one entry in a table, and two.
 
-pub put-first : (l m e : List ℕ) → Put l m 0 e → Holds m 1 (e ∷ [])
+pub put-one : (l m e : List ℕ) → Put l m 0 e → Holds m 1 (e ∷ [])
 unfolding entriesOf
-put-first l m e q = q
+put-one l m e q = q
 
-pub put-next : (l m e : List ℕ) (n : ℕ) (es : List (List ℕ)) → Holds l n es → Put l m n e → Holds m (n + 1) (es ++ (e ∷ []))
-put-next l m e n es h q = rw (← h .entries) q
+pub put-two : (l m k e f : List ℕ) → Put l m 0 e → Put m k 1 f → Holds k 2 (e ∷ f ∷ [])
+put-two l m k e f q r = rw (put-one l m e q .entries) at r

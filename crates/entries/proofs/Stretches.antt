@@ -16,7 +16,7 @@ use Rattle.files.specs.State.{fileFrom}
 use Rattle.group.specs.Plan.{entriesOf}
 use Rattle.group.proofs.Parts.{length-entries}
 use Rattle.entries.specs.Table.{Holds, Put}
-use Rattle.entries.proofs.Entries.{put-first}
+use Rattle.entries.proofs.Entries.{put-one}
 
 -- whether page p goes on a stretch, as `goes_on` answers it
 abbrev goes : ℕ → ℕ → ℕ → Bool
@@ -98,4 +98,4 @@ module _ (t : List ℕ) (z n : ℕ) (ws : List ℕ) (q : Holds ws n (stretches (
 
     pub file-sized : (z ≡ 0 → ⊥) → (us : List ℕ) → Put ws us 0 (sizeWords z) → Holds us 1 (cleanFile (fileFrom z t))
     unfolding cleanFile
-    file-sized e us u = rw (cleanFile, none, ne-eqb z 0 e) (put-first ws us (sizeWords z) u)
+    file-sized e us u = rw (cleanFile, none, ne-eqb z 0 e) (put-one ws us (sizeWords z) u)

@@ -36,7 +36,7 @@ unfolding callChecks fillChecks closedChecks volumeChecks
 all-checks v l c n = rw n
 
 -- what the call comes to
-comes : (v l : List ℕ) (c : Call) → needsClosed c ≡ true → fills (length v) (word v) (length l) c
+pub comes : (v l : List ℕ) (c : Call) → needsClosed c ≡ true → fills (length v) (word v) (length l) c
     ≡ firstRefusal (fillChecks (length v) (word v) (length l) ++ ownChecks v c) (done (filledWords v c))
 unfolding fills
 comes v l c n = rw (all-checks v (length l) c n)

@@ -9,10 +9,16 @@
 //         uint8_t *buffer, size_t buffer_len);
 //     int64_t volume_kth_name(const uint8_t *volume, size_t volume_len, uint64_t k, uint8_t *buffer, size_t buffer_len);
 //     int64_t volume_free_count(const uint8_t *volume, size_t volume_len);
+//     int64_t volume_create(const uint8_t *volume, size_t volume_len, const uint8_t *name, size_t name_len,
+//         uint64_t *list, size_t list_len);
+// and likewise volume_unlink; volume_link and volume_rename with two names; volume_write with inode, offset and bytes;
+// volume_set_size with inode and size; volume_clean with an inode; volume_recover.
 // find, size and read hand on to crate firmware: a static library exports the functions of its own crate alone.
 ghost use mathlib.Core.Path.{_≡_};
 ghost use Rattle.model.specs.Public.{formatAnswer, formatVolume, carryAnswer, carryVolume, findAnswer, sizeAnswer};
 ghost use Rattle.model.specs.Public.{readAnswer, readBuffer, kthNameAnswer, kthNameBuffer, freeAnswer};
+ghost use Rattle.model.specs.FileMap.{create, link, unlink, rename, write, setSize, clean, recover};
+ghost use Rattle.model.specs.Public.{callAnswer, callList};
 ghost use Rattle.answer.specs.Meaning.{plain, numbered, codeOf};
 
 // Makes the bytes a new volume with so many pages and inodes, an empty directory and no files. Answers 0, or minus the
@@ -91,4 +97,99 @@ pub extern "C" fn volume_free_count(volume: &[u8]) -> i64
     ensures { λ r. ⌜ r ≡ codeOf (numbered (freeAnswer (now (volume .entry)))) ⌝ }
 {
     answer::code(volume::free_count(volume))
+}
+
+// Fills a store list that makes a new, empty file with a name. Answers the count of words filled, or minus the number of the refusal: 1
+// short memory, 2 no volume, 3 damaged, 4 journal open, 5 bad name, 7 taken, 10 no inode, 11 directory full, 12 no space; the list is then
+// left as it was, here and below.
+// Example: of 16 pages just formatted with 8 inodes the name "A1" answers 46.
+#[no_mangle]
+pub extern "C" fn volume_create(volume: &[u8], name: &[u8], list: &mut [u64]) -> i64
+    ensures { λ r. ⌜ (r ≡ codeOf (numbered (callAnswer (now (volume .entry)) (now (list .entry)) (create (now (name .entry))))))
+        × (now (list .exit) ≡ callList (now (volume .entry)) (now (list .entry)) (create (now (name .entry)))) ⌝ }
+{
+    answer::code(volume::create(volume, name, list))
+}
+
+// Fills a store list that gives a file a further name. Answers the count of words filled, or minus the number of the refusal: 1 to 5, 6 not
+// there, 7 taken, 11 directory full, 12 no space.
+// Example: where "A1" is the only name, "A1" and "A2" answer 22, and "A1" and "A1" -7.
+#[no_mangle]
+pub extern "C" fn volume_link(volume: &[u8], old: &[u8], new: &[u8], list: &mut [u64]) -> i64
+    ensures { λ r. ⌜ (r ≡ codeOf (numbered (callAnswer (now (volume .entry)) (now (list .entry)) (link (now (old .entry)) (now (new .entry))))))
+        × (now (list .exit) ≡ callList (now (volume .entry)) (now (list .entry)) (link (now (old .entry)) (now (new .entry)))) ⌝ }
+{
+    answer::code(volume::link(volume, old, new, list))
+}
+
+// Fills a store list that takes a name away, and its file if it is the last. Answers the count of words filled, or minus the number of the
+// refusal: 1 to 5, 6 not there, 12 no space.
+// Example: where "A1" is the only name of inode 1, it answers 40.
+#[no_mangle]
+pub extern "C" fn volume_unlink(volume: &[u8], name: &[u8], list: &mut [u64]) -> i64
+    ensures { λ r. ⌜ (r ≡ codeOf (numbered (callAnswer (now (volume .entry)) (now (list .entry)) (unlink (now (name .entry))))))
+        × (now (list .exit) ≡ callList (now (volume .entry)) (now (list .entry)) (unlink (now (name .entry)))) ⌝ }
+{
+    answer::code(volume::unlink(volume, name, list))
+}
+
+// Fills a store list that gives a file another name in place of one. Answers the count of words filled, 0 where both names lead to one file,
+// or minus the number of the refusal: 1 to 5, 6 not there, 12 no space.
+// Example: where "A1" is the only name, "A1" and "A1" answer 0.
+#[no_mangle]
+pub extern "C" fn volume_rename(volume: &[u8], old: &[u8], new: &[u8], list: &mut [u64]) -> i64
+    ensures { λ r. ⌜ (r ≡ codeOf (numbered (callAnswer (now (volume .entry)) (now (list .entry)) (rename (now (old .entry)) (now (new .entry))))))
+        × (now (list .exit) ≡ callList (now (volume .entry)) (now (list .entry)) (rename (now (old .entry)) (now (new .entry)))) ⌝ }
+{
+    answer::code(volume::rename(volume, old, new, list))
+}
+
+// Fills a store list that writes bytes into a file from an offset on. Answers the count of words filled, 0 for no bytes, or minus the number
+// of the refusal: 1 to 4, 6 not there, 8 over 4,096 bytes, 9 past the end, 12 no space.
+// Example: of an empty file of 16 pages, 4 bytes at offset 510 answer 280.
+#[no_mangle]
+pub extern "C" fn volume_write(
+    volume: &[u8],
+    inode: u64,
+    offset: u64,
+    bytes: &[u8],
+    list: &mut [u64],
+) -> i64
+    ensures { λ r. ⌜ (r ≡ codeOf (numbered (callAnswer (now (volume .entry)) (now (list .entry)) (write inode offset (now (bytes .entry))))))
+        × (now (list .exit) ≡ callList (now (volume .entry)) (now (list .entry)) (write inode offset (now (bytes .entry)))) ⌝ }
+{
+    answer::code(volume::write(volume, inode, offset, bytes, list))
+}
+
+// Fills a store list that changes the size of a file. Answers the count of words filled, 0 where the size is the same, or minus the number of
+// the refusal: 1 to 4, 6 not there, 9 past the end, 12 no space.
+// Example: of a file of 514 bytes, size 514 answers 0.
+#[no_mangle]
+pub extern "C" fn volume_set_size(volume: &[u8], inode: u64, size: u64, list: &mut [u64]) -> i64
+    ensures { λ r. ⌜ (r ≡ codeOf (numbered (callAnswer (now (volume .entry)) (now (list .entry)) (setSize inode size))))
+        × (now (list .exit) ≡ callList (now (volume .entry)) (now (list .entry)) (setSize inode size)) ⌝ }
+{
+    answer::code(volume::set_size(volume, inode, size, list))
+}
+
+// Fills a store list that writes the log of an inode anew, without entries that no longer count. Answers the count of words filled, 0 for an
+// empty log, or minus the number of the refusal: 1 to 4, 6 not there, 12 no space.
+// Example: of a volume just formatted inode 0 answers 0.
+#[no_mangle]
+pub extern "C" fn volume_clean(volume: &[u8], inode: u64, list: &mut [u64]) -> i64
+    ensures { λ r. ⌜ (r ≡ codeOf (numbered (callAnswer (now (volume .entry)) (now (list .entry)) (clean inode))))
+        × (now (list .exit) ≡ callList (now (volume .entry)) (now (list .entry)) (clean inode)) ⌝ }
+{
+    answer::code(volume::clean(volume, inode, list))
+}
+
+// Fills a store list that puts back what an open journal holds and closes it. Answers the count of words filled, 0 where the journal is
+// closed, or minus the number of the refusal: 1 short memory, 2 no volume, 3 damaged.
+// Example: of a volume just formatted it answers 0.
+#[no_mangle]
+pub extern "C" fn volume_recover(volume: &[u8], list: &mut [u64]) -> i64
+    ensures { λ r. ⌜ (r ≡ codeOf (numbered (callAnswer (now (volume .entry)) (now (list .entry)) (recover))))
+        × (now (list .exit) ≡ callList (now (volume .entry)) (now (list .entry)) (recover)) ⌝ }
+{
+    answer::code(volume::recover(volume, list))
 }

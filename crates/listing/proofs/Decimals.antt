@@ -1,7 +1,6 @@
 -- Numbers in decimal: the digits of x are those of x / 10 and then the last one, since 20 digits hold every number of 64 bits.
-use Prim.Native.Nat.{ℕ, zero, suc, _+_, _*_, _/_, _%_, _^_, _≤_, _<_}
+use Prim.Native.Nat.{ℕ, zero, suc, _+_, _/_, _%_, _^_, _≤_, _<_}
 use mathlib.Core.Path.{_≡_, refl, sym, _∙_, ap}
-use mathlib.Core.Bool.{true, false}
 use mathlib.Core.List.{List, [], _∷_, _++_, append-assoc}
 use native.Mathlib.Omega.{arith}
 use borrow.Author.Tests.{lt-ltb, le-ltb}
@@ -56,3 +55,15 @@ digits-length (suc n) (suc k) x r h =
 pub decimal-length : (k x : ℕ) → x < 10 ^ suc k → length (decimal x) ≤ suc k
 unfolding decimal
 decimal-length k x h = let l = digits-length 20 k x [] h in omega arith
+
+-- every number is written with at most 20 digits
+digits-most : (n x : ℕ) (r : List ℕ) → length (digits n x r) ≤ n + length r
+unfolding digits
+digits-most zero x r = omega arith
+digits-most (suc n) x r =
+    by-lt x 10 (λ l. rw (lt-ltb x 10 l) (omega arith))
+    (λ l. rw (le-ltb x 10 l) (let g = digits-most n (x / 10) ((48 + x % 10) ∷ r) in omega arith))
+
+pub decimal-most : (x : ℕ) → length (decimal x) ≤ 20
+unfolding decimal
+decimal-most x = let l = digits-most 20 x [] in omega arith

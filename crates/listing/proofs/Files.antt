@@ -19,10 +19,10 @@ use Rattle.files.specs.State.{Folds}
 use Rattle.files.specs.declared.Folded.{Folded}
 use Rattle.files.specs.declared.Folded.the-variants.{Size, Bad}
 use Rattle.state.proofs.Sizes.{state-size, state-good}
-use Rattle.listing.specs.Lines.{IsFile, AreFiles}
+use Rattle.listing.specs.Lines.{GoodFile, GoodFiles}
 
 -- what `file_state` answered, x, of a file
-module _ (u : Mem) (P N k : ℕ) (x : Folded) (t : List ℕ) (f : Folds (logOk u P N k) (fileOf u P N k) x t) (i : IsFile u P N k) where
+module _ (u : Mem) (P N k : ℕ) (x : Folded) (t : List ℕ) (f : Folds (logOk u P N k) (fileOf u P N k) x t) (i : GoodFile u P N k) where
   pub size-is : (n : ℕ) → x ≡ Size n → n ≡ fileOf u P N k .size
   size-is n e = state-size _ _ x t f (i .log) n e
 
@@ -30,8 +30,8 @@ module _ (u : Mem) (P N k : ℕ) (x : Folded) (t : List ℕ) (f : Folds (logOk u
   size-good n e = state-good _ _ x t f (i .log) e
 
 module _ (u : Mem) (P N : ℕ) (ok : viewOk u P N ≡ true) where
-  files-of : (ns : Names) → GoodNames N ns → all (isValid u) (inodes ns) ≡ true → AreFiles u P N ns
-  unfolding AreFiles
+  files-of : (ns : Names) → GoodNames N ns → all (isValid u) (inodes ns) ≡ true → GoodFiles u P N ns
+  unfolding GoodFiles
   files-of [] g v = tt
   files-of (p ∷ ps) g v =
       let c = all-cons (isValid u) (p .1) (inodes ps) v in
@@ -46,6 +46,6 @@ module _ (u : Mem) (P N : ℕ) (ok : viewOk u P N ≡ true) where
     unfolding viewOk namesOk
     few-names = leb-true (length (namesOf u P N root)) 224 (search ands)
 
-    pub names-files : AreFiles u P N (namesOf u P N root)
+    pub names-files : GoodFiles u P N (namesOf u P N root)
     unfolding viewOk namesOk
     names-files = files-of (namesOf u P N root) good-names (search ands)

@@ -1,15 +1,16 @@
--- The loop over the names: the lines from the i-th name on are the one there and those after it.
+-- The line of a name, by what the code read of its entry and its file; and the loop: the lines from the i-th name on are the one there and
+-- those after it.
 use Prim.Native.Nat.{ℕ, _+_, _*_, _≤_, _<_}
-use mathlib.Core.Path.{_≡_, refl, sym, _∙_, ap}
+use mathlib.Core.Path.{_≡_, _∙_, ap}
 use mathlib.Core.Bool.{true}
-use mathlib.Core.List.{List, [], _∷_, _++_}
+use mathlib.Core.List.{List, _∷_, _++_}
 use native.Mathlib.Omega.{arith}
 use native.Mathlib.Numerals.{add-one}
-use lib.ListN.{length, getD, take, length-append}
+use lib.ListN.{length, getD, length-append}
 use lib.Seq.{slice, slice-cons, length-slice}
 use Rattle.model.specs.Words.{word}
 use Rattle.model.specs.Journal.{view}
-use Rattle.model.specs.State.{Names, fileOf}
+use Rattle.model.specs.State.{fileOf}
 use Rattle.model.specs.Listing.{decimal, nameLine, nameLines}
 use Rattle.model.proofs.Lists.{no-length}
 use Rattle.names.specs.Fields.{nameAt}
@@ -17,7 +18,7 @@ use Rattle.names.specs.Places.{standing, placeOk, Filled}
 use Rattle.lookup.proofs.Places.{place-in}
 use Rattle.stores.specs.Emitted.{Emitted}
 use Rattle.stores.proofs.Emitting.{Rest, rest-none, rest-next}
-use Rattle.listing.specs.Lines.{IsFile, AreFiles, lineOf}
+use Rattle.listing.specs.Lines.{GoodFile, GoodFiles, lineOf}
 use Rattle.listing.proofs.Lines.{line-room}
 
 -- The line of the name of the entry at place p: k is its inode and s its file's size, as the code read them.
@@ -25,7 +26,7 @@ use Rattle.listing.proofs.Lines.{line-room}
 pub entry-in : (v : List ℕ) (p : ℕ) → placeOk (word v) (length v) p ≡ true → 8 * (8 * p) + 64 ≤ length v
 entry-in v p ok = let h = place-in (word v) (length v) p ok in omega arith
 
-pub same-file : (v : List ℕ) (P N p k : ℕ) → k ≡ word v (8 * p + 1) → IsFile (view (word v)) P N (word v (8 * p + 1)) → IsFile (view (word v)) P N k
+pub same-file : (v : List ℕ) (P N p k : ℕ) → k ≡ word v (8 * p + 1) → GoodFile (view (word v)) P N (word v (8 * p + 1)) → GoodFile (view (word v)) P N k
 same-file v P N p k e f = rw e f
 
 module _ (v : List ℕ) (P N p k s : ℕ) (e : k ≡ word v (8 * p + 1)) (f : s ≡ fileOf (view (word v)) P N k .size) where
@@ -50,15 +51,15 @@ module _ (v : List ℕ) (P N c i : ℕ) (t : List ℕ) (filled : Filled (word v)
         let s : slice i c t ≡ p ∷ slice (i + 1) c t = rw (e, add-one) (slice-cons i c t 0 h (omega arith)) in
         ap (standing (word v)) s
 
-    module _ (a : AreFiles (view (word v)) P N (standing (word v) (slice i c t))) where
-      both : IsFile (view (word v)) P N (word v (8 * p + 1)) × AreFiles (view (word v)) P N (standing (word v) (slice (i + 1) c t))
-      unfolding AreFiles
+    module _ (a : GoodFiles (view (word v)) P N (standing (word v) (slice i c t))) where
+      both : GoodFile (view (word v)) P N (word v (8 * p + 1)) × GoodFiles (view (word v)) P N (standing (word v) (slice (i + 1) c t))
+      unfolding GoodFiles
       both = rw from at a
 
-      pub here-file : IsFile (view (word v)) P N (word v (8 * p + 1))
+      pub here-file : GoodFile (view (word v)) P N (word v (8 * p + 1))
       here-file = both .0
 
-      pub next-files : AreFiles (view (word v)) P N (standing (word v) (slice (i + 1) c t))
+      pub next-files : GoodFiles (view (word v)) P N (standing (word v) (slice (i + 1) c t))
       next-files = both .1
 
     module _ (l : List ℕ) (at : ℕ) (ls x : List ℕ) (b : ℕ) (q : Rest l at ls x b (nameLines (view (word v)) P N (standing (word v) (slice i c t)))) where

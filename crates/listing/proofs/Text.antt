@@ -2,22 +2,21 @@
 use Prim.Native.Nat.{ℕ, _+_, _*_, _≤_, _<_}
 use mathlib.Core.Path.{_≡_, refl, sym, _∙_, ap}
 use mathlib.Core.Bool.{true}
-use mathlib.Core.List.{List, [], _∷_, _++_}
+use mathlib.Core.List.{List, [], _++_}
 use mathlib.Core.Option.{Option, some}
 use native.Mathlib.Omega.{arith}
 use borrow.Author.Tests.{lt-ltb, le-ltb}
-use lib.ListN.{length, take, drop, length-append}
+use lib.ListN.{length, take, drop}
 use Rattle.model.specs.Words.{word}
 use Rattle.model.specs.Journal.{journalOk, view}
 use Rattle.model.specs.Accept.{freeCount, viewOk, accepted}
-use Rattle.model.specs.Answer as model
-use Rattle.model.specs.Answer.{refused, done, firstRefusal}
+use Rattle.model.specs.Answer.{done, firstRefusal}
 use Rattle.model.specs.Public.{closedChecks}
-use Rattle.model.specs.Listing.{decimal, firstLine, refusalLine, nameLines, textOf, textOr, listingOf, listing}
+use Rattle.model.specs.Listing.{firstLine, refusalLine, nameLines, textOf, textOr, listingOf, listing}
 use Rattle.model.proofs.Tests.{and-right}
 use Rattle.model.proofs.Crash.Landing.{Sizes, volume-parts, sizes-parts}
 use Rattle.log.specs.Ready.{Ready}
-use Rattle.names.specs.Places.{standing, Filled}
+use Rattle.names.specs.Places.{standing}
 use Rattle.names.proofs.Table.{standing-length}
 use Rattle.inodes.specs.Judged.{unmarkedCount}
 use Rattle.inodes.proofs.Once.{free-count}
@@ -28,9 +27,9 @@ use Rattle.gate.specs.Gated.{rootNames, Tables, Gated}
 use Rattle.gate.proofs.Gates.{NoNumber, refusal-of, same-refusal, none-refuses, gate-word-0, gate-word-1, gate-pages, gate-ready}
 use Rattle.stores.specs.Emitted.{Emitted}
 use Rattle.stores.proofs.Emitting.{emitted-both, emitted-parts}
-use Rattle.listing.specs.Lines.{refusalOf, AreFiles}
-use Rattle.listing.proofs.Files.{few-names, names-files}
-use Rattle.listing.proofs.Fits.{free-few, first-short, text-fits, listing-fits}
+use Rattle.listing.specs.Lines.{refusalOf, GoodFiles}
+use Rattle.listing.proofs.Files.{names-files}
+use Rattle.listing.proofs.Fits.{first-most, lines-most, listing-fits}
 
 -- The text of an accepted volume v with n names, by the gate's tables.
 module _ (v : List ℕ) (n : ℕ) (places marks : List ℕ) (t : Tables v n places marks) where
@@ -65,8 +64,16 @@ module _ (v : List ℕ) (n : ℕ) (places marks : List ℕ) (t : Tables v n plac
     pub text-ready : Ready (word v) (length v) P N
     text-ready = gate-ready v [] (Number n) places marks gated n refl P N p q
 
-    pub text-files : AreFiles (view (word v)) P N (standing (word v) (take n places))
+    pub text-files : GoodFiles (view (word v)) P N (standing (word v) (take n places))
     text-files = rw (p, q, t .names) (names-files (view (word v)) (word v 0) (word v 1) view-ok some-inodes)
+
+    -- the first line is put, whatever its numbers are
+    pub lines-room : (x y a : ℕ) (l m : List ℕ) → Emitted l 0 (firstLine x y) a m → a + length (nameLines (view (word v)) P N (standing (word v) (take n places))) ≤ 9728
+    lines-room x y a l m e =
+        let b = lines-most (view (word v)) (word v 0) (word v 1) view-ok some-inodes (sizes .most-inodes) in
+        let c = first-most x y in
+        let d = e .end in
+        rw (p, q, t .names) (omega arith)
 
     -- f is what `free_count` answered
     module _ (f : ℕ) (c : f ≡ unmarkedCount marks P N) where
@@ -75,28 +82,13 @@ module _ (v : List ℕ) (n : ℕ) (places marks : List ℕ) (t : Tables v n plac
           let u : f ≡ unmarkedCount marks (word v 0) (word v 1) = rw (← p, ← q) c in
           sym (free-count (view (word v)) (word v 0) (word v 1) true marks (sizes .most-pages) (t .served) refl f u)
 
-      pub first-room : 13 + length (decimal n) + length (decimal f) ≤ 9728
-      first-room =
-          let few : n ≤ 224 = rw (← count-is) (few-names (view (word v)) (word v 0) (word v 1) view-ok some-inodes) in
-          let free : f ≤ word v 0 = rw (← free-is) (free-few (view (word v)) (word v 0) (word v 1)) in
-          let most = sizes .most-pages in
-          let s = first-short n f few (omega arith) in omega arith
-
       text-is : textOf (view (word v)) (word v 0) (word v 1) ≡ firstLine n f ++ nameLines (view (word v)) P N (standing (word v) (take n places))
       unfolding textOf
       text-is = rw (count-is, free-is, p, q, t .names)
 
-      -- the first line is put, and the text is m by now
-      module _ (l : List ℕ) (a : ℕ) (m : List ℕ) (e : Emitted l 0 (firstLine n f) a m) where
-        pub lines-room : a + length (nameLines (view (word v)) P N (standing (word v) (take n places))) ≤ 9728
-        lines-room =
-            let s = text-fits (view (word v)) (word v 0) (word v 1) view-ok (sizes .most-pages) some-inodes (sizes .most-inodes) in
-            let h = rw (text-is, length-append) at s in
-            let d = e .end in omega arith
-
-        pub text-put : (r : ℕ) (o : List ℕ) → Emitted m a (nameLines (view (word v)) P N (standing (word v) (take n places))) r o
-            → Emitted l 0 (textOf (view (word v)) (word v 0) (word v 1)) r o
-        text-put r o d = rw text-is (emitted-both e d)
+      pub text-put : (l : List ℕ) (a : ℕ) (m : List ℕ) (r : ℕ) (o : List ℕ) → Emitted l 0 (firstLine n f) a m
+          → Emitted m a (nameLines (view (word v)) P N (standing (word v) (take n places))) r o → Emitted l 0 (textOf (view (word v)) (word v 0) (word v 1)) r o
+      text-put l a m r o e d = rw text-is (emitted-both e d)
 
 pub gate-tables : (v : List ℕ) (s : Answer) (places marks : List ℕ) → Gated v (closedChecks (length v) (word v)) s places marks → (n : ℕ) → s ≡ Number n
     → Tables v n places marks

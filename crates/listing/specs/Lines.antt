@@ -13,16 +13,16 @@ use Rattle.model.specs.Answer as model
 use Rattle.model.specs.Answer.{refused, done}
 use Rattle.names.specs.Fields.{nameAt}
 
--- inode k is a file, and its log is good
-pub record IsFile (u : Mem) (P N k : ℕ) : Type 0 where
+-- inode k is one of N and not the directory's, and its log is good
+pub record GoodFile (u : Mem) (P N k : ℕ) : Type 0 where
   pub above : 0 < k
   pub below : k < N
   pub log : logOk u P N k ≡ true
 
--- each of the names leads to a file
-unfoldable pub AreFiles : Mem → ℕ → ℕ → Names → Type 0
-AreFiles u P N [] = Unit {0}
-AreFiles u P N (p ∷ ps) = IsFile u P N (p .1) × AreFiles u P N ps
+-- each of the names leads to such an inode
+unfoldable pub GoodFiles : Mem → ℕ → ℕ → Names → Type 0
+GoodFiles u P N [] = Unit {0}
+GoodFiles u P N (p ∷ ps) = GoodFile u P N (p .1) × GoodFiles u P N ps
 
 -- the line of the name of the entry at place p, in a volume with the words m
 abbrev pub lineOf : Mem → ℕ → ℕ → ℕ → List ℕ

@@ -15,18 +15,19 @@ ghost use Rattle.names.specs.Places.{placeOk, standing, Filled};
 ghost use Rattle.answer.specs.Meaning.{meaning};
 ghost use Rattle.gate.specs.Gated.{Tables};
 ghost use Rattle.stores.specs.Emitted.{Emitted};
-ghost use Rattle.listing.specs.Lines.{refusalOf, IsFile, AreFiles, lineOf};
+ghost use Rattle.listing.specs.Lines.{refusalOf, GoodFile, GoodFiles, lineOf};
 use answer::Answer;
 
-// The bytes of the text: more than 20 for the first line and 43 for each of 224 names.
+// The bytes of the text. No listing is longer: its first line has at most 53, and 224 names have lines of at most 43.
 pub const TEXT_BYTES: usize = 9728;
 
 // How many bytes volume_list takes: "at most 65,536 bytes".
 const MOST_BYTES: usize = 65536;
 
-// The bytes " " and newline.
+// The byte between the parts of a line.
 const SPACE: u8 = 32;
 
+// The byte that ends a line.
 const NEWLINE: u8 = 10;
 
 // Puts one byte, and answers the index behind it.
@@ -145,7 +146,7 @@ fn put_line(
 // Answers the size of file k of a volume with so many pages and inodes.
 // Example: where inode 1 is a file of 514 bytes, file_size(v, 1, 16, 8) is 514.
 fn file_size(v: &[u8], k: usize, pages: usize, inodes: usize) -> u64
-    requires { ⌜ Ready (word (now v)) (length (now v)) pages inodes × IsFile (view (word (now v))) pages inodes k ⌝ }
+    requires { ⌜ Ready (word (now v)) (length (now v)) pages inodes × GoodFile (view (word (now v))) pages inodes k ⌝ }
     ensures { λ r. ⌜ r ≡ fileOf (view (word (now (v .entry)))) pages inodes k .size ⌝ }
 {
     let mut table = [0u64; 128];
@@ -169,7 +170,7 @@ fn put_file(
     inodes: usize,
 ) -> usize
     requires { ⌜ Ready (word (now v)) (length (now v)) pages inodes × (place < 65536) × (placeOk (word (now v)) (length (now v)) place ≡ true)
-        × IsFile (view (word (now v))) pages inodes (word (now v) (8 * place + 1))
+        × GoodFile (view (word (now v))) pages inodes (word (now v) (8 * place + 1))
         × (at + length (lineOf (word (now v)) pages inodes place) ≤ 9728) ⌝ }
     ensures { λ r. ⌜ Emitted (now (text .entry)) at (lineOf (word (now (v .entry))) pages inodes place) r (now (text .exit)) ⌝ }
 {
@@ -192,7 +193,7 @@ fn put_files(
     inodes: usize,
 ) -> usize
     requires { ⌜ Ready (word (now v)) (length (now v)) pages inodes × Filled (word (now v)) (length (now v)) count (now places)
-        × AreFiles (view (word (now v))) pages inodes (standing (word (now v)) (take count (now places)))
+        × GoodFiles (view (word (now v))) pages inodes (standing (word (now v)) (take count (now places)))
         × (at + length (nameLines (view (word (now v))) pages inodes (standing (word (now v)) (take count (now places)))) ≤ 9728) ⌝ }
     ensures { λ r. ⌜ Emitted (now (text .entry)) at
         (nameLines (view (word (now (v .entry)))) pages inodes (standing (word (now (v .entry))) (take count (now (places .entry))))) r (now (text .exit)) ⌝ }
@@ -210,7 +211,7 @@ fn put_files(
 // Answers the number of a refusal, by "What the screen says", and 0 of an answer that is none.
 // Example: refusal_number(Answer::Damaged) is 3.
 fn refusal_number(answer: Answer) -> u64
-    ensures { λ r. ⌜ (r ≡ refusalOf (meaning answer)) × (r < 100) ⌝ }
+    ensures { λ r. ⌜ r ≡ refusalOf (meaning answer) ⌝ }
 {
     match answer {
         Answer::Done => 0,

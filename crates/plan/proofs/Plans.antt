@@ -21,7 +21,8 @@ use Rattle.group.specs.declared.Plan.{Plan}
 use Rattle.group.specs.declared.Log.{Log}
 use Rattle.group.specs.Plan.{element, part, entriesOf, singleStores, setPair, logStores, restStores, LogFits, Fits}
 use Rattle.group.proofs.Singles.{both-assoc, both-none, length-pair, last-single}
-use Rattle.plan.specs.Planned.{Small, Askable, grown, appendStores, Planned, oneMore, NewAdded}
+use Rattle.plan.specs.Planned.{Small, Askable, grown, appendStores, freshIn, Planned, oneMore, NewAdded}
+use Rattle.plan.specs.declared.Append.{Append}
 
 -- `first_page`: no fresh page, or the one in element 1
 pub no-page : (ps : List ℕ) (n : ℕ) → n ≡ 0 → 0 ≡ getD (part ps 1 n) 0 0
@@ -55,17 +56,23 @@ one-last : (ss : List ℕ) (i x : ℕ) → 18 ≤ length ss → singleStores (se
 one-last ss i x h = last-single ss 8 i x h 0 8 refl ∙ no-singles ss (oneWord i x)
 
 -- The two cases: x is the tail, t its word's index and f that of the head.
-module _ (v ss ps : List ℕ) (k n entries start count : ℕ) (a : Askable v ss ps k n entries start count) (x t : ℕ) (i₀ : t ≡ tailWord k) (e₀ : x ≡ word v t) where
+module _ (v ss ps : List ℕ) (l : length ss ≡ 32) (b : Append) (a : Askable v ps b) (x t : ℕ) (i₀ : t ≡ tailWord (b .inode)) (e₀ : x ≡ word v t) where
+  abbrev k : ℕ
+  k = b .inode
+
+  abbrev n : ℕ
+  n = b .fresh
+
   e : x ≡ word v (tailWord k)
   e = rw (← i₀) e₀
 
   pub plan-empty : (ss′ : List ℕ) (f h : ℕ) → x ≡ 0 → h ≡ getD (part ps 1 n) 0 0 → f ≡ headWord k → ss′ ≡ setPair ss 8 f h
-      → Planned (word v) k n entries start count ps
-      (record { before = 0; start = start; count = count; log = record { from = 1; pages = n; first = 0; entries = entries }; after = 1 }) ss′ ps
+      → Planned (word v) b ps
+      (record { before = 0; start = b .start; count = b .count; log = record { from = 1; pages = n; first = 0; entries = b .entries }; after = 1 }) ss′ ps
   unfolding tailPages onlyIf restStores logStores appendStores pagesNeeded
   plan-empty ss′ f h z i d j =
       let q : word v (tailWord k) ≡ 0 = sym e ∙ z in
-      let need : n ≡ pagesNeeded (word v) k entries = a .needed in
+      let need : b .fresh ≡ pagesNeeded (word v) k (b .entries) = a .needed in
       record {
         fits = record {
           before-fit = omega arith;
@@ -76,12 +83,12 @@ module _ (v ss ps : List ℕ) (k n entries start count : ℕ) (a : Askable v ss 
         };
         none-before = refl;
         few-behind = omega arith;
-        stores = λ ws ds. rw (q, j, d, ← i, one-last ss (headWord k) h (omega (arith, a .singles-long)));
+        stores = λ ws ds. rw (q, j, d, ← i, one-last ss (headWord k) h (omega arith));
         pages = rw q;
         slots = rw q;
         entries-are = refl;
         enough = omega (arith, rw q at need);
-        singles-long = rw (j, length-pair) (a .singles-long);
+        singles-long = rw (j, length-pair) l;
         small = a .small;
       }
 
@@ -99,11 +106,11 @@ module _ (v ss ps : List ℕ) (k n entries start count : ℕ) (a : Askable v ss 
   no-head z = fun-ext (λ w. rw (ne-eqb (word v (tailWord k)) 0 (λ y. z (e ∙ y))))
 
   pub plan-more : (ps′ : List ℕ) → (x ≡ 0 → ⊥) → ps′ ≡ set ps 0 (x / 512)
-      → Planned (word v) k n entries start count ps
-      (record { before = 0; start = start; count = count; log = record { from = 0; pages = n + 1; first = x % 512 / 64; entries = entries }; after = 0 }) ss ps′
+      → Planned (word v) b ps
+      (record { before = 0; start = b .start; count = b .count; log = record { from = 0; pages = n + 1; first = x % 512 / 64; entries = b .entries }; after = 0 }) ss ps′
   unfolding restStores logStores appendStores pagesNeeded
   plan-more ps′ z j =
-      let need : n ≡ pagesNeeded (word v) k entries = a .needed in
+      let need : b .fresh ≡ pagesNeeded (word v) k (b .entries) = a .needed in
       let one : length (tailPages (word v) k) ≡ 1 = one-page z in
       record {
         fits = record {
@@ -120,7 +127,7 @@ module _ (v ss ps : List ℕ) (k n entries start count : ℕ) (a : Askable v ss 
         slots = rw e;
         entries-are = refl;
         enough = omega (arith, need, one, e);
-        singles-long = a .singles-long;
+        singles-long = l;
         small = rw j (small-set ps (x / 512) (a .small) (a .pages-long) (omega (arith, e, a .tail-small)));
       }
 

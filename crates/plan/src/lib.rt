@@ -1,6 +1,6 @@
 // The plan of an append: what its first group stores, as numbers beside the arrays of crate group, and the tail behind it. v is the
-// volume, whose journal is closed, and k the inode to whose log entries are appended. n fresh log pages stand in the array of pages from
-// element 1 on, and element 0 takes the page on which the log goes on.
+// volume, whose journal is closed. Fresh log pages stand in the array of pages from element 1 on, and element 0 takes the page on which
+// the log goes on.
 ghost use mathlib.Core.Path.{_≡_};
 ghost use Prim.Native.Nat.{_+_, _*_, _/_, _≤_, _<_};
 ghost use lib.ListN.{length, getD, set};
@@ -11,6 +11,15 @@ ghost use Rattle.group.specs.Plan.{part, LogFits, Fits};
 ghost use Rattle.plan.specs.Planned.{Small, Askable, Planned, NewAdded, oneMore};
 use group::Log;
 use group::Plan;
+
+// An append of `entries` entries to the log of an inode, with `fresh` fresh log pages and `count` data pages from page `start` on.
+pub struct Append {
+    pub inode: usize,
+    pub fresh: usize,
+    pub entries: usize,
+    pub start: usize,
+    pub count: usize,
+}
 
 // The bytes of a page.
 const PAGE: u64 = 512;
@@ -59,23 +68,19 @@ pub fn first_page(pages: &[u64; 40], n: usize) -> u64
     pages[1]
 }
 
-// Plans an append of some entries and of count data pages from page start on to the log of inode k: makes element 0 of the pages the
-// page on which the log goes on, or, where the tail is 0, a single of the head. Answers the plan.
-// Example: where the tail of inode 1 is 0 and fresh page 5 stands in element 1, plan_append(v, singles, pages, 1, 1, 1, 3, 2) has two data
-// pages from page 3 on, a log of page 5 with one entry, and the single 73, 5 behind them.
-pub fn plan_append(
-    v: &[u8],
-    singles: &mut [u64; 32],
-    pages: &mut [u64; 40],
-    k: usize,
-    n: usize,
-    entries: usize,
-    start: usize,
-    count: usize,
-) -> Plan
-    requires { ⌜ Askable (now v) (now singles) (now pages) k n entries start count ⌝ }
-    ensures { λ r. ⌜ Planned (word (now (v .entry))) k n entries start count (now (pages .entry)) r (now (singles .exit)) (now (pages .exit)) ⌝ }
+// Plans an append: makes element 0 of the pages the page on which the log goes on, or, where the tail is 0, a single of the head. Answers
+// the plan.
+// Example: where the tail of inode 1 is 0 and fresh page 5 stands in element 1, an append of one entry to inode 1 with two data pages from
+// page 3 on gets a plan with these data pages, a log of page 5 with one entry, and the single 73, 5 behind them.
+pub fn plan_append(v: &[u8], singles: &mut [u64; 32], pages: &mut [u64; 40], a: Append) -> Plan
+    requires { ⌜ (length (now singles) ≡ 32) × Askable (now v) (now pages) a ⌝ }
+    ensures { λ r. ⌜ Planned (word (now (v .entry))) a (now (pages .entry)) r (now (singles .exit)) (now (pages .exit)) ⌝ }
 {
+    let k = a.inode;
+    let n = a.fresh;
+    let entries = a.entries;
+    let start = a.start;
+    let count = a.count;
     let tail = words::word_at(v, tail_word(k));
     if tail == 0 {
         let head = first_page(pages, n);

@@ -20,7 +20,7 @@ module _ (u : Mem) (P N : ℕ) (b : List ℕ) (s : Served u P N true b) (x : ℕ
 
   -- Calls on the names of directory d.
   module _ (d : ℕ) (e : x ≡ u (tailWord d)) where
-    asked-only : (es : List (List ℕ)) → Asked u P N b x (length es) 0 (entriesOnly d es)
+    pub asked-only : (es : List (List ℕ)) → Asked u P N b x (length es) 0 (entriesOnly d es)
     unfolding entriesOnly
     asked-only es = asked-each (length es) 0 (entriesOnly d es) e (λ i. refl) refl
 

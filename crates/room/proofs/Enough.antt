@@ -9,13 +9,15 @@ use lib.Dec.{ltb}
 use lib.ListN.{length, getD}
 use Rattle.model.specs.Lists.{has, lowestFew}
 use Rattle.model.specs.Words.{Mem}
-use Rattle.model.specs.Calls.{pagesFor, Append, logPagesBeside, dataStart, freshPages, freshLog, noRoom, cleanEntries, cleanPages}
+use Rattle.model.specs.Layout.{tailWord}
+use Rattle.model.specs.Calls.{pagesFor, pagesNeeded, Append, logPagesBeside, dataStart, freshPages, freshLog, noRoom, cleanEntries, cleanPages}
 use Rattle.model.proofs.Lists.{few-holds}
 use Rattle.inodes.specs.Judged.{Served}
 use Rattle.space.proofs.Table.{table-pages}
 use Rattle.group.specs.Plan.{part}
 use Rattle.room.specs.declared.Room.{Room}
 use Rattle.room.specs.Taken.{InBounds, Given, Asked, PagesTaken, CleanTaken}
+use Rattle.room.proofs.Needed.{needed-is}
 
 -- the pages that a search finds lie in the volume
 few-low : (f : ℕ → Bool) (P n p : ℕ) → has p (lowestFew f P 0 n) ≡ true → p < P
@@ -38,6 +40,9 @@ given-pages c d m ps r t t′ i g l = rw (g .fresh) (table-pages t ps m t′ (g 
 module _ (b : List ℕ) (P N x n c : ℕ) (r : Room) (t t′ : List ℕ) (y : PagesTaken b P N x n c r t t′) where
   pub room-small : ((j : ℕ) → getD t j 0 < 4096) → (j : ℕ) → getD t′ j 0 < 4096
   room-small h = y .bounds .small h
+
+  pub room-needed : (u : Mem) (k : ℕ) → r .enough ≡ true → x ≡ u (tailWord k) → r .fresh ≡ pagesNeeded u k n
+  room-needed u k e h = y .needed e ∙ needed-is u k x n h
 
   module _ (u : Mem) (a : Append) (q : Asked u P N b x n c a) where
     pub room-answer : noRoom u P N a ≡ not (r .enough)

@@ -5,7 +5,6 @@ use mathlib.Core.List.{List}
 use native.Mathlib.Omega.{arith}
 use native.Mathlib.Nat.{sub-zero}
 use borrow.Author.Tests.{eq-eqb, ne-eqb}
-use lib.ListN.{length}
 use Rattle.model.specs.Words.{Mem}
 use Rattle.model.specs.Layout.{tailWord}
 use Rattle.model.specs.Calls.{pagesFor, tailPages, pagesNeeded, Append, freshPages}

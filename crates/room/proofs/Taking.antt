@@ -1,7 +1,7 @@
 -- The cases of `take_pages` and `take_clean`: what the searches in the marks found is what the model's searches for free pages find.
 use Prim.Native.Nat.{ℕ, _+_, _*_, _≤_}
 use mathlib.Core.Path.{_≡_, refl, sym, _∙_}
-use mathlib.Core.Bool.{Bool, true, false, not}
+use mathlib.Core.Bool.{Bool, false, not}
 use mathlib.Core.List.{List}
 use native.Mathlib.Omega.{arith}
 use borrow.Author.Tests.{lt-ltb, le-ltb, le-leb, lt-leb, leb-true}
@@ -51,25 +51,33 @@ module _ (b : List ℕ) (P N x n c d : ℕ) (low : P ≤ 4096) (e : d ≡ orElse
   pages-none t i h =
       record {
         bounds = record { few = omega arith; data-in = omega arith; long = refl; first = refl; small = λ g. g };
+        needed = λ z. no z;
         taken = λ u a q. record { answer = no-run u P N b low (q .served) c d e a (q .pages) h; given = λ z. no z };
       }
 
   -- m is what `pages_needed` answered, and k what `lowest_pages` did
   module _ (h : d ≡ P → ⊥) (m k : ℕ) (t t′ : List ℕ) (y : PagesFound t (unmarkedBeside b P N d c m) k t′) (w : m ≡ neededFor x n) (l : k ≤ m) where
-    asked-taken : (u : Mem) (a : Append) → Asked u P N b x n c a
-        → Taken (noRoom u P N a) (dataStart u P N a) (freshPages u P N a) (freshLog u P N a) (found d m k) t t′
-    asked-taken u a q =
-        let z = fresh-is u P N b x n c m a q w in
-        let s = data-start u P N b low (q .served) c d e a (q .pages) h in
-        let g = log-found u P N b low (q .served) c d e a (q .pages) h m k t t′ z y in
-        let f : noRoom u P N a ≡ ltb k m =
-        by-lt k m (λ i. no-log u P N b low (q .served) c d e a (q .pages) h m k t t′ z y i ∙ sym (lt-ltb k m i))
-        (λ i. room u P N b low (q .served) c d e a (q .pages) h m k t t′ z y i ∙ sym (le-ltb k m i)) in
-        rw (← s, ← z) (taken d m k t t′ (freshLog u P N a) (noRoom u P N a) g l f)
+    module _ (u : Mem) (a : Append) (q : Asked u P N b x n c a) where
+      log-needed : m ≡ freshPages u P N a
+      log-needed = fresh-is u P N b x n c m a q w
+
+      log-lacking : noRoom u P N a ≡ ltb k m
+      log-lacking =
+          by-lt k m (λ i. no-log u P N b low (q .served) c d e a (q .pages) h m k t t′ log-needed y i ∙ sym (lt-ltb k m i))
+          (λ i. room u P N b low (q .served) c d e a (q .pages) h m k t t′ log-needed y i ∙ sym (le-ltb k m i))
+
+      log-taken : Taken (noRoom u P N a) (dataStart u P N a) (freshPages u P N a) (freshLog u P N a) (found d m k) t t′
+      log-taken =
+          rw (← data-start u P N b low (q .served) c d e a (q .pages) h, ← log-needed)
+          (taken d m k t t′ (freshLog u P N a) _ (log-found u P N b low (q .served) c d e a (q .pages) h m k t t′ log-needed y) l log-lacking)
 
     pub pages-taken : m ≤ 32 → PagesTaken b P N x n c (record { enough = leb m k; start = d; fresh = m }) t t′
     pages-taken f =
-        record { bounds = in-bounds d m k t t′ b P N c y low f (omega (arith, run-fits b P N c d e h)); taken = asked-taken }
+        record {
+          bounds = in-bounds d m k t t′ b P N c y low f (omega (arith, run-fits b P N c d e h));
+          needed = λ i. w;
+          taken = log-taken;
+        }
 
 -- m is what `pages_for` answered of n entries, and k what `lowest_pages` did.
 pub clean-taken : (b : List ℕ) (P N n m k : ℕ) (t t′ : List ℕ) → P ≤ 4096 → PagesFound t (unmarkedBeside b P N 0 0 m) k t′ → m ≡ pagesFor n

@@ -47,6 +47,7 @@ pub record Asked (u : Mem) (P N : ℕ) (b : List ℕ) (x n c : ℕ) (a : Append)
 -- `take_pages`: what it says of every append of which it can have been asked
 pub record PagesTaken (b : List ℕ) (P N x n c : ℕ) (r : Room) (t t′ : List ℕ) : Type 0 where
   pub bounds : InBounds c r t t′
+  pub needed : r .enough ≡ true → r .fresh ≡ neededFor x n
   pub taken : (u : Mem) (a : Append) → Asked u P N b x n c a
       → Taken (noRoom u P N a) (dataStart u P N a) (freshPages u P N a) (freshLog u P N a) r t t′
 

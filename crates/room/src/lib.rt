@@ -1,6 +1,6 @@
-// The pages that an append or clean takes, or that there are not enough of them: refusal 12. marks has a byte for each page, 0 where
-// the page is not in use; pages and inodes are the volume's sizes. Fresh log pages are laid into a lent table from element 1 on, since
-// element 0 is kept for the page on which a log goes on (crate group).
+// The pages that an append or clean takes, or that there are not enough: refusal 12. marks has a byte for each page, 0 where the page is
+// not in use; pages and inodes are the volume's sizes. Fresh log pages are laid into a lent table from element 1 on, since element 0 is
+// kept for the page on which a log goes on (crate group).
 ghost use mathlib.Core.Path.{_≡_};
 ghost use Prim.Native.Nat.{_+_, _*_, _≤_};
 ghost use Rattle.model.specs.Calls.{pagesFor};
@@ -31,10 +31,11 @@ fn pages_for(n: usize) -> usize
     (n + (PAGE_ENTRIES - 1)) / PAGE_ENTRIES
 }
 
-// Answers how many fresh pages a log with a tail takes for further entries.
+// Answers how many fresh pages a log takes for further entries: as many as those on its tail's page and the further ones fill, less that
+// page. Tail 0 is that of an empty log, which has no page yet.
 // Example: pages_needed(0, 2) is 1. With tail 1,216, behind the third entry of page 2, pages_needed(1216, 4) is 0 and
 // pages_needed(1216, 5) is 1.
-pub fn pages_needed(tail: u64, entries: usize) -> usize
+fn pages_needed(tail: u64, entries: usize) -> usize
     requires { ⌜ entries ≤ 224 ⌝ }
     ensures { λ r. ⌜ (r ≡ neededFor tail entries) × (r ≤ 32) ⌝ }
 {
@@ -49,12 +50,12 @@ pub fn pages_needed(tail: u64, entries: usize) -> usize
     all - 1
 }
 
-// Takes the pages for an append of some entries to a log with a tail and of count data pages: the data pages are the lowest run of
-// so many that are not in use, and the log pages the lowest ones left. Answers whether there are enough. Where there are not, the
-// table holds anything from element 1 on.
+// Takes the pages for an append of some entries to a log with a tail, and of count data pages: for the data the lowest run of so many
+// pages that are not in use, then for the log the lowest ones left, which it lays into the table from element 1 on. Answers whether
+// there are enough; where there are not, the table may have changed from element 1 on.
 // Example: with 16 pages and 8 inodes, of marks that are all 0 but that of page 2, take_pages(marks, 16, 8, 1472, 1, 3, table) has enough
-// pages and start 3; the page 2 of the log is full, so that fresh is 1 and element 1 of the table is 6. With count 14 there are not
-// enough.
+// pages, and start is 3. Tail 1,472 is that of a log whose last page, 2, is full, so that fresh is 1, and element 1 of the table is 6.
+// With page 9 marked too, no run of 7 pages is left, and take_pages(marks, 16, 8, 1472, 1, 7, table) has not enough.
 pub fn take_pages(
     marks: &[u8; 4096],
     pages: usize,
@@ -67,25 +68,25 @@ pub fn take_pages(
     requires { ⌜ (pages ≤ 4096) × (entries ≤ 224) × (count ≤ 9) ⌝ }
     ensures { λ r. ⌜ PagesTaken (now (marks .entry)) pages inodes tail entries count r (now (table .entry)) (now (table .exit)) ⌝ }
 {
-    let start = space::lowest_run(marks, pages, inodes, count);
-    if start == pages {
+    let first = space::lowest_run(marks, pages, inodes, count);
+    if first == pages {
         return Room {
             enough: false,
             start: 0,
             fresh: 0,
         };
     }
-    let fresh = pages_needed(tail, entries);
-    let found = space::lowest_pages(marks, pages, inodes, start, count, fresh, table);
+    let needed = pages_needed(tail, entries);
+    let found = space::lowest_pages(marks, pages, inodes, first, count, needed, table);
     Room {
-        enough: fresh <= found,
-        start: start,
-        fresh: fresh,
+        enough: needed <= found,
+        start: first,
+        fresh: needed,
     }
 }
 
-// Takes the pages for a log that clean writes anew with some entries: the lowest that are not in use. Answers whether there are enough;
-// start is 0. Where there are not, the table holds anything from element 1 on.
+// Takes the pages for a log that clean writes anew, with some entries: the lowest ones that are not in use, which it lays into the table
+// from element 1 on. Answers whether there are enough, with start 0; where there are not, the table may have changed from element 1 on.
 // Example: with 16 pages and 8 inodes, of marks that are all 0 but that of page 2, take_clean(marks, 16, 8, 8, table) has enough pages,
 // fresh is 2, and elements 1 and 2 of the table are 3 and 4. With 100 entries there are not enough.
 pub fn take_clean(
@@ -103,6 +104,6 @@ pub fn take_clean(
     Room {
         enough: fresh <= found,
         start: 0,
-        fresh: fresh,
+        fresh,
     }
 }

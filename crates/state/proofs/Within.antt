@@ -32,10 +32,8 @@ pub good-small : (u : Mem) (P N k : ℕ) → (k ≡ 0 → ⊥) → logOk u P N k
 unfolding logOk fileOf
 good-small u P N k c h = let g = rw (ne-eqb k 0 c) at h in small-file P N (entries u P N k) (search ands)
 
-module _ (v : List ℕ) (k : ℕ) (r : Answer) (marks t : List ℕ) (a : Stated v k r marks t) (s : ℕ) (e : r ≡ Number s) where
-  f : FileState v k s marks t
-  f = a .state s e
-
+-- what the state of a file k that is there allows
+module _ (v : List ℕ) (k s : ℕ) (marks t : List ℕ) (f : FileState v k s marks t) where
   is-file : leb (word v 1) k || not (isFile (view (word v)) k) ≡ false
   unfolding noFile
   is-file = f .there
@@ -43,17 +41,28 @@ module _ (v : List ℕ) (k : ℕ) (r : Answer) (marks t : List ℕ) (a : Stated 
   above : k ≡ 0 → ⊥
   above z = let h = there-file-0 (view (word v)) (word v 1) k is-file in absurd (omega arith)
 
-  good-log : logOk (view (word v)) (word v 0) (word v 1) k ≡ true
+  pub file-below : k < word v 1
+  file-below = there-below (view (word v)) (word v 1) k is-file
+
+  pub file-good : logOk (view (word v)) (word v 0) (word v 1) k ≡ true
   unfolding accepted
-  good-log =
+  file-good =
       let w : viewOk (view (word v)) (word v 0) (word v 1) ≡ true = and-right (journalOk (word v) (word v 1)) _ (f .good) in
-      file-log (view (word v)) (word v 0) (word v 1) k w (there-below (view (word v)) (word v 1) k is-file) (there-valid (view (word v)) (word v 1) k is-file)
+      file-log (view (word v)) (word v 0) (word v 1) k w file-below (there-valid (view (word v)) (word v 1) k is-file)
 
-  pub state-small : s ≤ 65536
-  state-small = rw (ap (λ (x : File). x .size) (f .file)) (good-small (view (word v)) (word v 0) (word v 1) k above good-log)
+  pub file-small : s ≤ 65536
+  file-small = rw (ap (λ (x : File). x .size) (f .file)) (good-small (view (word v)) (word v 0) (word v 1) k above file-good)
 
-  pub state-within : Within (length v) t
-  state-within =
+  pub file-within : Within (length v) t
+  file-within =
       let p = volume-parts (length v) (word v) (f .volume) in
       let z = sizes-parts (word v 0) (word v 1) (p .sizes) in
-      placed-within (word v 0) (word v 1) s (length v) t _ (file-placed (view (word v)) (word v 0) (word v 1) k good-log above) (f .file) (omega arith) (p .bytes)
+      placed-within (word v 0) (word v 1) s (length v) t _ (file-placed (view (word v)) (word v 0) (word v 1) k file-good above) (f .file) (omega arith) (p .bytes)
+
+-- the same of what was answered, r, where it is a number
+module _ (v : List ℕ) (k : ℕ) (r : Answer) (marks t : List ℕ) (a : Stated v k r marks t) (s : ℕ) (e : r ≡ Number s) where
+  pub state-small : s ≤ 65536
+  state-small = file-small v k s marks t (a .state s e)
+
+  pub state-within : Within (length v) t
+  state-within = file-within v k s marks t (a .state s e)

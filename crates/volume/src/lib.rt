@@ -1,53 +1,12 @@
-// The calls of the file store. Each works from the lent volume v alone, takes any bytes and any numbers, and answers
-// what document 01 says; a refusal leaves every lent byte as it was.
+// The fifteen calls of the file store. Each works from the lent volume v alone, takes any bytes and any numbers, and answers
+// what document 01 says; a refusal leaves every lent byte as it was. A call that changes files fills a lent store list and
+// leaves the volume: carry_out stores it.
 ghost use mathlib.Core.Path.{_≡_};
-ghost use mathlib.Core.List.{_++_};
-ghost use Prim.Native.Nat.{_+_, _*_, _/_, _≤_};
-ghost use lib.ListN.{length, drop, replicate};
-ghost use Rattle.model.specs.Words.{putWord};
+ghost use Rattle.model.specs.FileMap.{create, link, unlink, rename, write, setSize, clean, recover};
 ghost use Rattle.model.specs.Public.{formatAnswer, formatVolume, carryAnswer, carryVolume, findAnswer, freeAnswer, kthNameAnswer, kthNameBuffer};
-ghost use Rattle.model.specs.Public.{sizeAnswer, readAnswer, readBuffer};
+ghost use Rattle.model.specs.Public.{sizeAnswer, readAnswer, readBuffer, callAnswer, callList};
 ghost use Rattle.answer.specs.Meaning.{meaning, plain, numbered};
 use answer::Answer;
-
-// The valid word of inode 0, the directory.
-const ROOT_WORD: usize = 64;
-
-// Answers the first byte after page 0 and the inode table.
-// Example: table_end(8) is 1024 and table_end(256) is 16896.
-fn table_end(inodes: u64) -> usize
-    requires { ⌜ inodes ≤ 256 ⌝ }
-    ensures { λ r. ⌜ r ≡ 512 * (inodes / 8 + 1) ⌝ }
-{
-    let table = inodes as usize / 8;
-    512 * (table + 1)
-}
-
-// Zeroes the first n bytes and leaves the others. Answers nothing.
-// Example: of the bytes 7, 7, 7 zero(v, 2) makes 0, 0, 7.
-fn zero(v: &mut [u8], n: usize)
-    requires { ⌜ n ≤ length (now v) ⌝ }
-    ensures { λ _. ⌜ now (v .exit) ≡ replicate n 0 ++ drop n (now (v .entry)) ⌝ }
-{
-    let mut i = 0;
-    while i < n {
-        v[i] = 0;
-        i = i + 1;
-    }
-}
-
-// Stores the words of a new volume that are not 0: the two sizes, the 1 in word 2, and the 1 in word 64, by which
-// inode 0 is valid. Answers nothing.
-// Example: put_header(v, 16, 8) makes word 0 16, word 1 8, and words 2 and 64 1.
-fn put_header(v: &mut [u8], pages: u64, inodes: u64)
-    requires { ⌜ 520 ≤ length (now v) ⌝ }
-    ensures { λ _. ⌜ now (v .exit) ≡ putWord (putWord (putWord (putWord (now (v .entry)) 0 pages) 1 inodes) 2 1) 64 1 ⌝ }
-{
-    words::put_word(v, header::PAGES_WORD, pages);
-    words::put_word(v, header::INODES_WORD, inodes);
-    words::put_word(v, header::KIND_WORD, 1);
-    words::put_word(v, ROOT_WORD, 1);
-}
 
 // Makes v a new volume with so many pages and inodes, an empty directory and no files: zeroes page 0 and the inode
 // table, stores the header and leaves the other pages. Answers Done, or NoVolume where a volume may not have these
@@ -58,12 +17,7 @@ pub fn format(v: &mut [u8], pages: u64, inodes: u64) -> Answer
     ensures answer { λ r. ⌜ meaning r ≡ plain (formatAnswer (now (v .entry)) pages inodes) ⌝ }
     ensures bytes { λ _. ⌜ now (v .exit) ≡ formatVolume (now (v .entry)) pages inodes ⌝ }
 {
-    if !header::sizes_fit(v.len(), pages, inodes) {
-        return Answer::NoVolume;
-    }
-    zero(v, table_end(inodes));
-    put_header(v, pages, inodes);
-    Answer::Done
+    storing::format(v, pages, inodes)
 }
 
 // Carries out the first count words of a list as a store list: judges them all, and then stores in list order. Answers
@@ -75,39 +29,99 @@ pub fn carry_out(v: &mut [u8], list: &[u64], count: u64) -> Answer
     ensures answer { λ r. ⌜ meaning r ≡ plain (carryAnswer (now (v .entry)) (now (list .entry)) count) ⌝ }
     ensures bytes { λ _. ⌜ now (v .exit) ≡ carryVolume (now (v .entry)) (now (list .entry)) count ⌝ }
 {
-    if !header::is_volume(v) {
-        return Answer::NoVolume;
-    }
-    if count % 2 != 0 {
-        return Answer::BadList;
-    }
-    if (list.len() as u64) < count {
-        return Answer::BadList;
-    }
-    let n = count as usize;
-    let part = &list[..n];
-    if !pairs::list_ok(part, v.len() as u64 / 8) {
-        return Answer::BadList;
-    }
-    pairs::store_pairs(v, part);
-    Answer::Done
+    storing::carry_out(v, list, count)
 }
 
-// Answers Number with the count of free pages.
-// Refusals: NoVolume, Damaged, JournalOpen.
-// Example: of 16 pages just formatted with 8 inodes free_count(v) is Number(14).
-pub fn free_count(v: &[u8]) -> Answer
-    ensures { λ r. ⌜ meaning r ≡ numbered (freeAnswer (now (v .entry))) ⌝ }
+// Makes a new, empty file with a name: fills the list with the stores that add the name and make the lowest invalid inode valid. Answers
+// Number with the count of words filled.
+// Refusals: ShortMemory, NoVolume, Damaged, JournalOpen, BadName, Taken, NoInode, DirectoryFull, NoSpace.
+// Example: of 16 pages just formatted with 8 inodes create(v, b"A1", list) is Number(46); carried out, "A1" leads to inode 1.
+pub fn create(v: &[u8], name: &[u8], list: &mut [u64]) -> Answer
+    ensures { λ r. ⌜ (meaning r ≡ numbered (callAnswer (now (v .entry)) (now (list .entry)) (create (now (name .entry)))))
+        × (now (list .exit) ≡ callList (now (v .entry)) (now (list .entry)) (create (now (name .entry)))) ⌝ }
 {
-    let mut places = [0u16; 28672];
-    let mut marks = [0u8; 4096];
-    let gate = gate::closed(v, &mut places, &mut marks);
-    let Answer::Number(_) = gate else {
-        return gate;
-    };
-    let pages = words::word_at(v, header::PAGES_WORD) as usize;
-    let inodes = words::word_at(v, header::INODES_WORD) as usize;
-    Answer::Number(inodes::free_count(&marks, pages, inodes))
+    naming::create(v, name, list)
+}
+
+// Gives a file a further name: fills the list with the stores that add the new name for the inode of the old one. Answers Number with the
+// count of words filled.
+// Refusals: ShortMemory, NoVolume, Damaged, JournalOpen, BadName, NotThere, Taken, DirectoryFull, NoSpace.
+// Example: where "A1" is the only name, link(v, b"A1", b"A2", list) is Number(22), and link(v, b"A1", b"A1", list) Taken.
+pub fn link(v: &[u8], old: &[u8], new: &[u8], list: &mut [u64]) -> Answer
+    ensures { λ r. ⌜ (meaning r ≡ numbered (callAnswer (now (v .entry)) (now (list .entry)) (link (now (old .entry)) (now (new .entry)))))
+        × (now (list .exit) ≡ callList (now (v .entry)) (now (list .entry)) (link (now (old .entry)) (now (new .entry)))) ⌝ }
+{
+    naming::link(v, old, new, list)
+}
+
+// Takes a name away: fills the list with the stores that remove it and, where it is the last name of its file, make the file's inode
+// invalid. Answers Number with the count of words filled.
+// Refusals: ShortMemory, NoVolume, Damaged, JournalOpen, BadName, NotThere, NoSpace.
+// Example: where "A1" is the only name of inode 1, unlink(v, b"A1", list) is Number(40).
+pub fn unlink(v: &[u8], name: &[u8], list: &mut [u64]) -> Answer
+    ensures { λ r. ⌜ (meaning r ≡ numbered (callAnswer (now (v .entry)) (now (list .entry)) (unlink (now (name .entry)))))
+        × (now (list .exit) ≡ callList (now (v .entry)) (now (list .entry)) (unlink (now (name .entry)))) ⌝ }
+{
+    naming::unlink(v, name, list)
+}
+
+// Gives a file another name in place of one: fills the list with the stores that remove the old name, add the new one for its inode and,
+// where the new name was the last of another file, make that file's inode invalid. Nothing is filled where both names lead to one inode.
+// Answers Number with the count of words filled.
+// Refusals: ShortMemory, NoVolume, Damaged, JournalOpen, BadName, NotThere, NoSpace.
+// Example: where "A1" is the only name, rename(v, b"A1", b"A2", list) is Number(38), and rename(v, b"A1", b"A1", list) Number(0).
+pub fn rename(v: &[u8], old: &[u8], new: &[u8], list: &mut [u64]) -> Answer
+    ensures { λ r. ⌜ (meaning r ≡ numbered (callAnswer (now (v .entry)) (now (list .entry)) (rename (now (old .entry)) (now (new .entry)))))
+        × (now (list .exit) ≡ callList (now (v .entry)) (now (list .entry)) (rename (now (old .entry)) (now (new .entry)))) ⌝ }
+{
+    naming::rename(v, old, new, list)
+}
+
+// Writes bytes to a file from an offset on: fills the list with the store list. Answers Number with the count of words filled, 0 where
+// there are no bytes to write.
+// Refusals: ShortMemory, NoVolume, Damaged, JournalOpen, NotThere, LongWrite, PastTheEnd, NoSpace.
+// Example: where inode 1 is an empty file with a log page that has room for an entry, write(v, 1, 0, b"abcd", list) is Number(150), and
+// write(v, 1, 65533, b"abcd", list) is PastTheEnd.
+pub fn write(v: &[u8], inode: u64, offset: u64, bytes: &[u8], list: &mut [u64]) -> Answer
+    ensures { λ r. ⌜ (meaning r ≡ numbered (callAnswer (now (v .entry)) (now (list .entry)) (write inode offset (now (bytes .entry)))))
+        × (now (list .exit) ≡ callList (now (v .entry)) (now (list .entry)) (write inode offset (now (bytes .entry)))) ⌝ }
+{
+    writing::write(v, inode, offset, bytes, list)
+}
+
+// Sets the size of a file: fills the list with the store list. Answers Number with the count of words filled, 0 where the file has that
+// size already.
+// Refusals: ShortMemory, NoVolume, Damaged, JournalOpen, NotThere, PastTheEnd, NoSpace.
+// Example: where inode 1 is a file of 1,024 bytes on two pages and its log has a page with room for two entries, set_size(v, 1, 700, list) is
+// Number(166), set_size(v, 1, 512, list) Number(22), set_size(v, 1, 1024, list) Number(0) and set_size(v, 1, 65537, list) PastTheEnd.
+pub fn set_size(v: &[u8], inode: u64, size: u64, list: &mut [u64]) -> Answer
+    ensures { λ r. ⌜ (meaning r ≡ numbered (callAnswer (now (v .entry)) (now (list .entry)) (setSize inode size)))
+        × (now (list .exit) ≡ callList (now (v .entry)) (now (list .entry)) (setSize inode size)) ⌝ }
+{
+    writing::set_size(v, inode, size, list)
+}
+
+// Fills the list that writes an inode's log anew, with the entries that its state needs and no others, and answers Number with the
+// count of words filled: 0 where the log is empty.
+// Refusals: ShortMemory, NoVolume, Damaged, JournalOpen, NotThere, NoSpace.
+// Example: of a volume just formatted with 8 inodes clean(v, 0, list) is Number(0), and clean(v, 1, list) and clean(v, 8, list) are
+// NotThere; where file 1 has one page, clean(v, 1, list) is Number(40).
+pub fn clean(v: &[u8], inode: u64, list: &mut [u64]) -> Answer
+    ensures { λ r. ⌜ (meaning r ≡ numbered (callAnswer (now (v .entry)) (now (list .entry)) (clean inode)))
+        × (now (list .exit) ≡ callList (now (v .entry)) (now (list .entry)) (clean inode)) ⌝ }
+{
+    cleaning::clean(v, inode, list)
+}
+
+// Fills the list that puts the old values of the journal's open entries back, and answers Number with the count of words filled: 0
+// where no entry is open.
+// Refusals: ShortMemory, NoVolume, Damaged.
+// Example: of a volume just formatted recover(v, list) is Number(0); with one entry open it is Number(8).
+pub fn recover(v: &[u8], list: &mut [u64]) -> Answer
+    ensures { λ r. ⌜ (meaning r ≡ numbered (callAnswer (now (v .entry)) (now (list .entry)) recover))
+        × (now (list .exit) ≡ callList (now (v .entry)) (now (list .entry)) recover) ⌝ }
+{
+    cleaning::recover(v, list)
 }
 
 // Looks a name up and answers Number with its inode.
@@ -116,45 +130,7 @@ pub fn free_count(v: &[u8]) -> Answer
 pub fn find(v: &[u8], name: &[u8]) -> Answer
     ensures { λ r. ⌜ meaning r ≡ numbered (findAnswer (now (v .entry)) (now (name .entry))) ⌝ }
 {
-    let mut places = [0u16; 28672];
-    let mut marks = [0u8; 4096];
-    let gate = gate::closed(v, &mut places, &mut marks);
-    let Answer::Number(count) = gate else {
-        return gate;
-    };
-    if !lookup::is_name(name) {
-        return Answer::BadName;
-    }
-    let inode = lookup::find_name(v, &places, count as usize, name);
-    if inode == 0 {
-        return Answer::NotThere;
-    }
-    Answer::Number(inode)
-}
-
-// Lays the k-th name of the directory, counted from 0, into the first 32 bytes of a buffer, zeros after it, and answers Number
-// with its length.
-// Refusals: ShortMemory, NoVolume, Damaged, JournalOpen, NotThere.
-// Example: where "A1" is the only name, kth_name(v, 0, buffer) is Number(2) and makes the buffer begin with 65, 49 and 30 zeros;
-// kth_name(v, 1, buffer) is NotThere.
-pub fn kth_name(v: &[u8], k: u64, buffer: &mut [u8]) -> Answer
-    ensures { λ r. ⌜ (meaning r ≡ numbered (kthNameAnswer (now (v .entry)) k (now (buffer .entry))))
-        × (now (buffer .exit) ≡ kthNameBuffer (now (v .entry)) k (now (buffer .entry))) ⌝ }
-{
-    if buffer.len() < 32 {
-        return Answer::ShortMemory;
-    }
-    let mut places = [0u16; 28672];
-    let mut marks = [0u8; 4096];
-    let gate = gate::closed(v, &mut places, &mut marks);
-    let Answer::Number(count) = gate else {
-        return gate;
-    };
-    if count <= k {
-        return Answer::NotThere;
-    }
-    let place = names::place(&places, k as usize);
-    Answer::Number(lookup::lay_name(v, place, buffer))
+    reading::find(v, name)
 }
 
 // Answers Number with the size of a file.
@@ -163,9 +139,7 @@ pub fn kth_name(v: &[u8], k: u64, buffer: &mut [u8]) -> Answer
 pub fn size(v: &[u8], inode: u64) -> Answer
     ensures { λ r. ⌜ meaning r ≡ numbered (sizeAnswer (now (v .entry)) inode) ⌝ }
 {
-    let mut marks = [0u8; 4096];
-    let mut table = [0u64; 128];
-    state::file(v, inode, &mut marks, &mut table)
+    reading::size(v, inode)
 }
 
 // Lays the bytes of a file from an offset on into a buffer, as many as the file has there, up to the buffer, and answers Number with
@@ -177,11 +151,26 @@ pub fn read(v: &[u8], inode: u64, offset: u64, buffer: &mut [u8]) -> Answer
     ensures { λ r. ⌜ (meaning r ≡ numbered (readAnswer (now (v .entry)) inode offset (now (buffer .entry))))
         × (now (buffer .exit) ≡ readBuffer (now (v .entry)) inode offset (now (buffer .entry))) ⌝ }
 {
-    let mut marks = [0u8; 4096];
-    let mut table = [0u64; 128];
-    let state = state::file(v, inode, &mut marks, &mut table);
-    let Answer::Number(size) = state else {
-        return state;
-    };
-    Answer::Number(contents::read_into(v, &table, size as usize, offset, buffer) as u64)
+    reading::read(v, inode, offset, buffer)
+}
+
+// Lays the k-th name of the directory, counted from 0, into the first 32 bytes of a buffer, zeros after it, and answers Number
+// with its length.
+// Refusals: ShortMemory, NoVolume, Damaged, JournalOpen, NotThere.
+// Example: where "A1" is the only name, kth_name(v, 0, buffer) is Number(2) and makes the buffer begin with 65, 49 and 30 zeros;
+// kth_name(v, 1, buffer) is NotThere.
+pub fn kth_name(v: &[u8], k: u64, buffer: &mut [u8]) -> Answer
+    ensures { λ r. ⌜ (meaning r ≡ numbered (kthNameAnswer (now (v .entry)) k (now (buffer .entry))))
+        × (now (buffer .exit) ≡ kthNameBuffer (now (v .entry)) k (now (buffer .entry))) ⌝ }
+{
+    reading::kth_name(v, k, buffer)
+}
+
+// Answers Number with the count of free pages.
+// Refusals: NoVolume, Damaged, JournalOpen.
+// Example: of 16 pages just formatted with 8 inodes free_count(v) is Number(14).
+pub fn free_count(v: &[u8]) -> Answer
+    ensures { λ r. ⌜ meaning r ≡ numbered (freeAnswer (now (v .entry))) ⌝ }
+{
+    reading::free_count(v)
 }

@@ -47,7 +47,6 @@ mod journal;
 mod log;
 mod map;
 mod reading;
-mod refusal;
 mod space;
 mod stores;
 

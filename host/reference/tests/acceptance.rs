@@ -1,29 +1,10 @@
 //! What an accepted volume is: each condition broken by itself, and what is not read.
 
-mod common;
-
-use common::*;
 use reference::layout::{head_word, set_word, tail_word, valid_word, word};
 use reference::{judge, Refusal, Use};
+use samples::*;
 
 const ODD: u64 = 0xDEAD_BEEF_0BAD_F00D;
-
-/// P = 20, N = 16, so pages 3 to 19 hold logs and data. Made by hand: "A1" is inode 1 with log
-/// page 4, data pages 5 and 6 and 700 bytes; "B2" is inode 2 with an empty log; the directory's
-/// log is page 3.
-fn sample() -> Vec<u8> {
-    let mut volume = formatted(20, 16);
-    put_log(
-        &mut volume,
-        0,
-        &[3],
-        &[entry_add(1, b"A1"), entry_add(2, b"B2")],
-    );
-    put_log(&mut volume, 1, &[4], &[entry_write(0, 5, 2, 700)]);
-    put_log(&mut volume, 2, &[], &[]);
-    volume[6 * 512 + 188..7 * 512].fill(0);
-    volume
-}
 
 #[track_caller]
 fn accepted(volume: &[u8]) {

@@ -1,12 +1,10 @@
 //! Cases A to M of document 01, with every number in the paper.
 
-mod common;
-
-use common::*;
 use reference::layout::{head_word, tail_word, word};
 use reference::{
     cut, find, free_count, groups, judge, kth_name, listing, read, size, Call, Refusal, Use, FENCE,
 };
+use samples::*;
 
 fn case_a() -> Vec<u8> {
     formatted(16, 8)

@@ -1,15 +1,12 @@
 //! Random lists of calls with power cuts, and recoveries cut and run through: the third demand by
 //! running, and what else holds of every call.
 
-mod common;
-
-use common::*;
 use reference::layout::{set_word, tail_word, word};
-use reference::random::Random;
 use reference::{
-    carry_out, cut, free_count, groups, judge, kth_name, land, map_after, read, refused_by_map,
-    size, Call, FileMap, Refusal, Use, Volume,
+    carry_out, free_count, groups, judge, kth_name, land, map_after, read, refused_by_map, size,
+    Call, FileMap, Refusal, Use, Volume,
 };
+use samples::*;
 
 /// A history: a volume that calls and cuts change, and the map that it must have.
 struct History {
@@ -51,7 +48,7 @@ impl History {
         let call = if open && !self.random.once_in(4) {
             Call::Recover
         } else {
-            self.any_call(&before)
+            any_call(&mut self.random, self.inodes, &before)
         };
         let expected = self.expected_refusal(&before, open, &call);
         let list = match filled(&self.volume, &call) {
@@ -149,104 +146,6 @@ impl History {
             assert_eq!(buffer[..count], rest[..count]);
             assert!(buffer[count..].iter().all(|&byte| byte == 7));
         }
-    }
-}
-
-/// Cuts a list in a random group: nothing, everything, or any set of its words kept.
-fn random_cut(random: &mut Random, volume: &mut [u8], list: &[u64]) {
-    let group = random.below(groups(list).len() as u64) as usize;
-    match random.below(4) {
-        0 => cut(volume, list, group, |_| true),
-        1 => {
-            let left_out = random.below(4);
-            cut(volume, list, group, |_| random.below(4) != left_out);
-        }
-        _ => cut(volume, list, group, |_| random.once_in(2)),
-    }
-}
-
-/// Random calls, mostly about what stands.
-impl History {
-    fn any_call(&mut self, map: &FileMap) -> Call {
-        match self.random.below(20) {
-            0..=3 => create(&self.any_name(map, 1)),
-            4..=5 => link(&self.any_name(map, 7), &self.any_name(map, 2)),
-            6 => unlink(&self.any_name(map, 7)),
-            7..=8 => rename(&self.any_name(map, 7), &self.any_name(map, 5)),
-            9..=14 => self.any_write(map),
-            15..=17 => {
-                let inode = self.any_inode(map);
-                set_size(inode, self.any_offset(map, inode))
-            }
-            18 => clean(self.any_inode(map)),
-            _ => Call::Recover,
-        }
-    }
-
-    /// A name; about `standing` in 8 times one that stands.
-    fn any_name(&mut self, map: &FileMap, standing: u64) -> Vec<u8> {
-        if self.random.below(8) < standing {
-            if let Some((name, _)) = self.random.choose(&map.names) {
-                return name.clone();
-            }
-        }
-        let length = match self.random.below(40) {
-            0 => 0,
-            1 => 33,
-            2..=5 => 32,
-            _ => self.random.between(1, 3) as usize,
-        };
-        let mut name = vec![97 + self.random.below(12) as u8; length];
-        match self.random.below(80) {
-            0 => name.push(0),
-            1 => name.insert(0, b'/'),
-            _ => {}
-        }
-        name
-    }
-
-    fn any_inode(&mut self, map: &FileMap) -> u64 {
-        let valid: Vec<u64> = map.files.keys().copied().collect();
-        match self.random.below(16) {
-            0 => self.random.number(),
-            1 => self.random.below(self.inodes + 2),
-            2 => 0,
-            _ => self.random.choose(&valid).copied().unwrap_or(1),
-        }
-    }
-
-    /// An offset or size: often near the file's end, a page boundary or the limit.
-    fn any_offset(&mut self, map: &FileMap, inode: u64) -> u64 {
-        let size = map.files.get(&inode).map_or(0, |bytes| bytes.len() as u64);
-        let base = match self.random.below(12) {
-            0 => return self.random.number(),
-            1 => 65_536,
-            2..=3 => self.random.below(65_536),
-            4..=6 => size,
-            7..=8 => 512 * self.random.below(12),
-            _ => return self.random.below(4_096),
-        };
-        (base + self.random.below(4)).saturating_sub(2)
-    }
-
-    fn any_write(&mut self, map: &FileMap) -> Call {
-        let inode = self.any_inode(map);
-        let offset = self.any_offset(map, inode);
-        let length = match self.random.below(12) {
-            0 => 0,
-            1 => 4_097,
-            2 => 4_096,
-            3..=4 => self.random.below(4_096),
-            5..=7 => self.random.below(1_400),
-            _ => self.random.below(20),
-        };
-        let zeros = self.random.once_in(8);
-        let bytes = if zeros {
-            vec![0; length as usize]
-        } else {
-            self.random.bytes(length as usize)
-        };
-        write(inode, offset, &bytes)
     }
 }
 

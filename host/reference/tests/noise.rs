@@ -1,83 +1,13 @@
 //! Noise: random bytes, changed bits and words of accepted volumes, odd lengths, huge numbers,
-//! random logs. Every call returns, refusals leave lent memory as it was, and what is accepted is
+//! made-up volumes. Every call returns, refusals leave lent memory as it was, and what is accepted is
 //! treated as the rules say.
 
-mod common;
-
-use common::*;
 use reference::layout::{set_word, word};
-use reference::random::Random;
 use reference::{
     carry_out, cut, find, format, free_count, groups, judge, kth_name, land, listing, map,
     map_after, read, refused_by_map, size, Answer, Call, Refusal, FENCE,
 };
-
-/// Numbers at which sums wrap, limits end and types narrow.
-const NUMBERS: [u64; 22] = [
-    0,
-    1,
-    2,
-    7,
-    8,
-    31,
-    33,
-    127,
-    128,
-    448,
-    511,
-    512,
-    4_096,
-    65_535,
-    65_536,
-    65_537,
-    1 << 32,
-    (1 << 32) + 1,
-    1 << 55,
-    1 << 61,
-    u64::MAX - 511,
-    u64::MAX,
-];
-
-fn any_number(random: &mut Random) -> u64 {
-    match random.below(4) {
-        0 => random.number(),
-        1 => random.below(70_000),
-        2 => random.below(10),
-        _ => NUMBERS[random.below(NUMBERS.len() as u64) as usize],
-    }
-}
-
-fn any_name(random: &mut Random) -> Vec<u8> {
-    match random.below(4) {
-        0 => {
-            let length = random.below(40) as usize;
-            random.bytes(length)
-        }
-        1 => vec![97; random.below(40) as usize],
-        _ => vec![97 + random.below(5) as u8],
-    }
-}
-
-fn any_calls(random: &mut Random) -> Vec<Call> {
-    let length = match random.below(3) {
-        0 => random.below(5_000),
-        _ => random.below(700),
-    };
-    let bytes = random.bytes(length as usize);
-    vec![
-        create(&any_name(random)),
-        link(&any_name(random), &any_name(random)),
-        unlink(&any_name(random)),
-        rename(&any_name(random), &any_name(random)),
-        write(any_number(random), any_number(random), &bytes),
-        write(random.below(8), random.below(1_500), &bytes),
-        set_size(any_number(random), any_number(random)),
-        set_size(random.below(8), random.below(1_500)),
-        clean(any_number(random)),
-        clean(random.below(4)),
-        Call::Recover,
-    ]
-}
+use samples::*;
 
 /// What came of a volume: refused, open, or accepted with the journal closed.
 #[derive(Default, Debug)]
@@ -181,7 +111,8 @@ fn reading_calls(random: &mut Random, volume: &[u8], refusal: Option<Refusal>) {
         assert_eq!(buffer.get(32..), marked.get(32..));
     }
     let lines = listing(volume);
-    assert_eq!(lines.starts_with(b"refused"), refusal.is_some());
+    let refused = refusal.is_some() || volume.len() > 65_536;
+    assert_eq!(lines.starts_with(b"refused"), refused);
     assert!(lines.ends_with(b"\n"));
 }
 
@@ -229,47 +160,12 @@ fn random_bytes_with_sizes() {
     let mut random = Random::new(2);
     let mut counts = Counts::default();
     for _ in 0..60 {
-        let inodes = 8 * random.between(1, 4);
-        let pages = random.between(16, 24);
-        let mut volume = random.bytes(pages as usize * 512);
-        for (index, value) in [(0, pages), (1, inodes), (2, 1)] {
-            set_word(&mut volume, index, value);
+        for volume in headed_noise(&mut random) {
+            make_every_call(&mut random, &volume, &mut counts);
         }
-        make_every_call(&mut random, &volume, &mut counts);
-        for index in [8, 9] {
-            set_word(&mut volume, index, 3);
-        }
-        for index in 64..64 + 8 * inodes {
-            let value = match random.below(3) {
-                0 => 0,
-                1 => 1,
-                _ => random.below(pages * 512),
-            };
-            set_word(&mut volume, index, value);
-        }
-        set_word(&mut volume, 64, 1);
-        make_every_call(&mut random, &volume, &mut counts);
     }
     assert_eq!(counts.no_volume, 0);
     assert!(counts.damaged > 100, "{counts:?}");
-}
-
-/// An accepted volume that some calls have changed, the last perhaps cut.
-fn used_volume(random: &mut Random) -> Vec<u8> {
-    let mut volume = formatted(random.between(16, 24), 8);
-    for _ in 0..6 {
-        for call in any_calls(random) {
-            let _ = run(&mut volume, &call);
-        }
-    }
-    if random.once_in(4) {
-        let list = match filled(&volume, &create(b"zz")) {
-            Ok(list) => list,
-            Err(_) => return volume,
-        };
-        cut(&mut volume, &list, 2, |_| random.once_in(2));
-    }
-    volume
 }
 
 /// Makes every call on used volumes after one to three changes each. `change` makes one: it gets the volume before, and its copy.
@@ -331,62 +227,12 @@ fn each_word_changed() {
     }
 }
 
-/// A volume with random logs in random pages: much of it goes only in the middle of a log.
-fn random_logs(random: &mut Random) -> Vec<u8> {
-    let pages = random.between(20, 40);
-    let mut volume = formatted(pages, 8);
-    volume[1024..].fill(0);
-    let mut unused: Vec<u64> = (2..pages).collect();
-    let mut take = |random: &mut Random, count: usize| -> Vec<u64> {
-        let place = |limit: usize, random: &mut Random| random.below(limit as u64) as usize;
-        (0..count)
-            .map(|_| unused.swap_remove(place(unused.len(), random)))
-            .collect()
-    };
-    let mut names: Vec<[u64; 8]> = Vec::new();
-    for _ in 0..random.below(12) {
-        let name = [97 + random.below(4) as u8];
-        names.push(match random.below(3) {
-            0 => entry_remove(&name),
-            _ => entry_add(random.between(1, 7), &name),
-        });
-    }
-    for inode in 1..=3 {
-        names.push(entry_remove(&[97 + inode as u8]));
-        names.push(entry_add(inode, &[97 + inode as u8]));
-        let mut entries: Vec<[u64; 8]> = Vec::new();
-        for _ in 0..random.below(9) {
-            let count = random.between(1, 5);
-            let data_page = random.between(2, pages - count);
-            let size = random.below(3_000);
-            entries.push(match random.below(3) {
-                0 => entry_size(size),
-                _ => entry_write(random.below(6), data_page, count, size),
-            });
-        }
-        entries.push(entry_size(random.below(2) * random.below(1_200)));
-        if random.once_in(2) {
-            let data_page = take(random, 1)[0];
-            entries.push(entry_write(0, data_page, 1, random.between(512, 2_000)));
-        }
-        let log = take(random, entries.len().div_ceil(7));
-        put_log(&mut volume, inode, &log, &entries);
-    }
-    names.push(entry_remove(b"a"));
-    let log = take(random, names.len().div_ceil(7));
-    put_log(&mut volume, 0, &log, &names);
-    let position = random.below(16);
-    set_word(&mut volume, 8, position);
-    set_word(&mut volume, 9, position);
-    volume
-}
-
 #[test]
-fn random_logs_of_allowed_entries() {
+fn made_up_volumes() {
     let mut random = Random::new(6);
     let mut counts = Counts::default();
     for _ in 0..400 {
-        let volume = random_logs(&mut random);
+        let volume = made_up(&mut random);
         make_every_call(&mut random, &volume, &mut counts);
     }
     assert!(counts.closed > 60 && counts.damaged > 60, "{counts:?}");

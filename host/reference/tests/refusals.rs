@@ -1,14 +1,12 @@
 //! The refusals: for each call every number with its exact condition, the lowest one first, and
 //! lent memory as it was.
 
-mod common;
-
-use common::*;
 use reference::layout::{set_word, tail_word, word};
 use reference::{
     carry_out, find, format, free_count, kth_name, listing, read, size, Answer, Call, Refusal,
     FENCE,
 };
+use samples::*;
 
 /// P = 16, N = 8, with "A1" (inode 1) of 4 bytes and the empty "B2" (inode 2).
 fn ready() -> Vec<u8> {

@@ -1,13 +1,11 @@
 //! Volumes of particular shapes: long directories, logs that straddle pages, journal positions
 //! that wrap, the largest file, and every way to cut a few calls.
 
-mod common;
-
-use common::*;
 use reference::layout::{head_word, set_word, tail_word, valid_word, word};
 use reference::{
     cut, find, free_count, groups, judge, land, map_after, read, size, Call, Use, FENCE,
 };
+use samples::*;
 
 /// Lands a call on a volume and checks that its map is the one after the call.
 fn lands(volume: &mut [u8], call: &Call) -> u64 {
@@ -23,20 +21,6 @@ fn lands(volume: &mut [u8], call: &Call) -> u64 {
 fn stores_in(group: &[(u64, u64)], page: u64) -> Vec<(u64, u64)> {
     let inside = |store: &&(u64, u64)| store.0 / 64 == page;
     group.iter().filter(inside).copied().collect()
-}
-
-/// A directory whose log holds 300 names in its middle and these many in the end; made by hand.
-fn long_directory(standing: u64) -> Vec<u8> {
-    let mut volume = formatted(140, 16);
-    let mut entries: Vec<[u64; 8]> = Vec::new();
-    entries.extend((0..300).map(|number| entry_add(number % 15 + 1, &numbered(number))));
-    entries.extend((standing..300).map(|number| entry_remove(&numbered(number))));
-    let pages: Vec<u64> = (3..).take(entries.len().div_ceil(7)).collect();
-    put_log(&mut volume, 0, &pages, &entries);
-    for inode in 1..=standing.min(15) {
-        put_log(&mut volume, inode, &[], &[]);
-    }
-    volume
 }
 
 #[test]

@@ -1,6 +1,6 @@
 -- A refusal is put as its line, by the length or by the gate; else the text is put. Every listing has room.
 use borrow.Author.Needs.{needs}
-use Rattle.listing.proofs.Fits.{refusal-short}
+use Rattle.listing.proofs.Fits.{refusal-room}
 use Rattle.listing.proofs.Text.{long-put, refused-put, gate-tables, passed-put, listed}
 use Rattle.listing.proofs.lay_listing.Statement.{statement}
 use Rattle.listing.proofs.lay_listing.Tie as tie
@@ -10,12 +10,12 @@ lay-listing-spec =
     tie.close
     (tie.spec
     (λ c κs. search needs)
-    (λ c κs. search (refusal-short, needs))
+    (λ c κs. search (refusal-room, needs))
     (λ c. listed _ _ _ _ (search needs) (search (long-put, needs)))
     (λ c κs. search needs)
     (λ c. search needs)
     (λ c κs. search needs)
-    (λ c κs. search (refusal-short, needs))
+    (λ c κs. search (refusal-room, needs))
     (λ c. listed _ _ _ _ (search needs) (search (refused-put, needs)))
     (λ c κs. search (gate-tables, needs))
     (λ c. listed _ _ _ _ (search needs) (search (passed-put, needs))))

@@ -1,5 +1,5 @@
 -- The loop's invariant: the bytes that are left, put from here on, give all of them, put from the start on.
-use Prim.Native.Nat.{_-_, _+_, _≤_}
+use Prim.Native.Nat.{_-_}
 use lib.ListN.{length, drop}
 use borrow.Author.Needs.{needs}
 use Rattle.stores.proofs.Emitting.{Rest}

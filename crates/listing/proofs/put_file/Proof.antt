@@ -1,4 +1,5 @@
 -- The line of a name, with what its entry and its file say.
+use native.Mathlib.Omega.{arith}
 use borrow.Author.Needs.{needs}
 use Rattle.listing.proofs.Names.{entry-in, same-file, file-room, file-put}
 use Rattle.listing.proofs.put_file.Statement.{statement}
@@ -10,5 +11,5 @@ put-file-spec =
     (tie.spec
     (λ c κs. (search (entry-in, needs), search needs))
     (λ c κs. (search needs, search (same-file, needs)))
-    (λ c κs. (search needs, search (file-room, needs)))
+    (λ c κs. (search needs, omega (arith, file-room _ _ _ _ _ _ (c .before .before .inode-at .ensures) (c .before .file-size .ensures) _ (c .before .before .before .before .pre .4))))
     (λ c. search (file-put, needs)))

@@ -9,14 +9,14 @@ use Rattle.model.specs.Listing.{nameLines}
 use Rattle.names.specs.Places.{standing}
 use Rattle.lookup.proofs.Places.{place-ok}
 use Rattle.stores.proofs.Emitting.{Rest, rest-all}
-use Rattle.listing.specs.Lines.{AreFiles}
+use Rattle.listing.specs.Lines.{GoodFiles}
 use Rattle.listing.proofs.Names.{here-file, next-files, here-room, next-lines, lines-end}
 use Rattle.listing.proofs.put_files.Statement.{statement}
 use Rattle.listing.proofs.put_files.Tie as tie
 
 abbrev Inv-loop : tie.InvT-loop
 Inv-loop text₀ at v places count pages inodes next₀ i₀ text next i =
-    AreFiles (view (word v)) pages inodes (standing (word v) (slice i count places))
+    GoodFiles (view (word v)) pages inodes (standing (word v) (slice i count places))
     × Rest text₀ at (nameLines (view (word v)) pages inodes (standing (word v) (take count places)))
     text next (nameLines (view (word v)) pages inodes (standing (word v) (slice i count places)))
 

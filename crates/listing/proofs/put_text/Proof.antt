@@ -1,7 +1,7 @@
 -- The sizes are read, the free pages counted, and the first line and those of the names put one after the other.
 use borrow.Author.Needs.{needs}
-use Rattle.gate.specs.Gated.{Tables}
-use Rattle.listing.proofs.Text.{text-word-0, text-word-1, text-pages, text-ready, text-files, first-room, lines-room, text-put}
+use Rattle.listing.proofs.Fits.{first-room}
+use Rattle.listing.proofs.Text.{text-word-0, text-word-1, text-pages, text-ready, text-files, lines-room, text-put}
 use Rattle.listing.proofs.put_text.Statement.{statement}
 use Rattle.listing.proofs.put_text.Tie as tie
 

@@ -1,0 +1,2 @@
+-- The cases of the reading calls.
+mod Answers

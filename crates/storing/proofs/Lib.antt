@@ -1,0 +1,3 @@
+-- The cases of format and of carry out.
+mod Formatting
+mod Carrying

@@ -1,0 +1,4 @@
+mod Stages
+mod Bounds
+mod Held
+mod Appends

@@ -1,0 +1,11 @@
+-- The two cases of the larger number.
+use borrow.Author.Needs.{needs}
+use Rattle.writing.proofs.larger.Statement.{statement}
+use Rattle.writing.proofs.larger.Tie as tie
+
+pub larger-spec : {M : Type 1} → statement M
+larger-spec =
+    tie.close
+    (tie.spec
+    (λ c. search needs)
+    (λ c. search needs))

@@ -1,0 +1,152 @@
+//! The volumes that are timed.
+
+use reference::layout::word;
+use reference::{judge, FENCE};
+use samples::{
+    create, done, entry_add, entry_remove, entry_write, formatted, put_log, write, zero_page,
+};
+
+/// A volume, and the arguments of the calls on it.
+#[derive(Clone)]
+pub struct Subject {
+    pub volume: Vec<u8>,
+    pub pages: u64,
+    pub inodes: u64,
+    /// How many names stand.
+    pub names: u64,
+    /// The last name, and the inode that it leads to.
+    pub name: Vec<u8>,
+    pub inode: u64,
+    /// The file with the largest size.
+    pub file: u64,
+    pub buffer: Vec<u8>,
+    /// A store list of 1,176 words that changes nothing.
+    pub list: Vec<u64>,
+}
+
+impl Subject {
+    /// The arguments for an accepted volume, with the compiled calls' answers checked.
+    fn new(volume: Vec<u8>) -> Subject {
+        let judged = judge(&volume).expect("the volume is accepted");
+        let (name, inode) = *judged.names.last().expect("a name stands");
+        let largest = judged.files.iter().max_by_key(|(_, file)| file.size);
+        let subject = Subject {
+            pages: judged.sizes.pages(),
+            inodes: judged.sizes.inodes(),
+            names: judged.names.len() as u64,
+            name: name.to_vec(),
+            inode,
+            file: largest.map_or(0, |(&file, _)| file),
+            buffer: vec![0; 4_096],
+            list: stores(&volume),
+            volume: volume.clone(),
+        };
+        assert_eq!(calls::find(&volume, name), Ok(inode));
+        assert_eq!(calls::free_count(&volume), reference::free_count(&volume));
+        subject
+    }
+}
+
+/// A list of two groups that stores in words of the last pages what they hold.
+fn stores(volume: &[u8]) -> Vec<u64> {
+    let end = volume.len() as u64 / 8;
+    let group = |first: u64| (first..first + 293).flat_map(|index| [index, word(volume, index)]);
+    let fence = [FENCE, 0];
+    let first = group(end - 600).chain(fence);
+    first.chain(group(end - 300)).chain(fence).collect()
+}
+
+/// One file of 514 bytes.
+pub fn nearly_empty(pages: u64) -> Subject {
+    let mut volume = formatted(pages, 8);
+    done(&mut volume, &create(b"A1"));
+    done(&mut volume, &write(1, 510, b"text"));
+    Subject::new(volume)
+}
+
+/// The inode count of the larger volumes: as many as a volume of so many pages may have and hold.
+fn inodes_for(pages: u64) -> u64 {
+    match pages {
+        16 => 8,
+        128 => 64,
+        _ => 256,
+    }
+}
+
+/// A name of its own for each number, of different lengths.
+fn name(number: u64) -> Vec<u8> {
+    format!(
+        "{number} {}",
+        &"name of a file in a folder"[..number as usize % 24]
+    )
+    .into_bytes()
+}
+
+/// Every page in use: an eighth for the directory's log, the others for files, a third of them log pages.
+pub fn full(pages: u64) -> Subject {
+    let inodes = inodes_for(pages);
+    let mut volume = formatted(pages, inodes);
+    let mut unused = inodes / 8 + 1..pages;
+    let log: Vec<u64> = unused.by_ref().take((pages as usize / 8).max(2)).collect();
+    let left = unused.end - unused.start;
+    let files = (inodes - 1).min(224).min(left / 2);
+    put_log(
+        &mut volume,
+        0,
+        &log,
+        &directory(7 * log.len() as u64, files, files),
+    );
+    for file in 1..=files {
+        let last = if file == files { left % files } else { 0 };
+        let own: Vec<u64> = unused
+            .by_ref()
+            .take((left / files + last) as usize)
+            .collect();
+        put_file(&mut volume, file, &own);
+    }
+    Subject::new(volume)
+}
+
+/// So many entries of a directory in which so many names stand in the end, the first of them for files 1
+/// and on: each other name is added and then removed.
+fn directory(entries: u64, standing: u64, files: u64) -> Vec<[u64; 8]> {
+    let others = (entries - standing) / 2;
+    let add = |number: u64| entry_add(number % files + 1, &name(number));
+    let mut log: Vec<[u64; 8]> = (0..others).map(|number| add(number + standing)).collect();
+    log.extend((0..standing).map(add));
+    log.extend((0..others).map(|number| entry_remove(&name(number + standing))));
+    while (log.len() as u64) < entries {
+        log.push(entry_remove(b"never"));
+    }
+    log
+}
+
+/// A file in these pages: a log in a third of them, and data in the others, file page by file page.
+fn put_file(volume: &mut [u8], inode: u64, own: &[u64]) {
+    let (log, data) = own.split_at((own.len() / 3).max(1));
+    let data = &data[..data.len().min(128)];
+    let size = 512 * data.len() as u64;
+    let mut entries: Vec<[u64; 8]> = Vec::new();
+    for place in 0..7 * log.len() {
+        let page = place % data.len();
+        entries.push(entry_write(page as u64, data[page], 1, size));
+    }
+    entries[0] = entry_write(0, data[0], data.len() as u64, size);
+    for &page in data {
+        zero_page(volume, page);
+    }
+    put_log(volume, inode, log, &entries);
+}
+
+/// The directory's log in every page; at most 224 names stand in the end.
+pub fn long_directory(pages: u64) -> Subject {
+    let mut volume = formatted(pages, 8);
+    let log: Vec<u64> = (2..pages).collect();
+    let entries = 7 * log.len() as u64;
+    let standing = 224.min(entries / 4);
+    put_log(&mut volume, 0, &log, &directory(entries, standing, 7));
+    for inode in 1..8 {
+        put_log(&mut volume, inode, &[], &[]);
+    }
+    Subject::new(volume)
+}

@@ -1,0 +1,267 @@
+//! The compiled calls of the file store, for Rust programs.
+//!
+//! The calls are proved and compiled in `crates/host_calls`; `rt staticlib host_calls` makes the
+//! archive that this crate links (see `build.rs`). Each call here hands its slices and numbers on and
+//! turns the number that comes back into an [`Answer`]; it checks nothing itself.
+//!
+//! A *volume* is a lent slice of bytes, and every call works from the volume alone. Slices may have any
+//! length and hold any bytes: every call returns, and a refusal leaves all lent memory as it was. A call
+//! keeps nothing between two calls, so calls on different volumes may run at the same time. The reading
+//! calls need about 64 KB of stack for their tables.
+//!
+//! # Example
+//!
+//! ```
+//! use calls::{carry_out, find, format, free_count, kth_name, read, size, Refusal};
+//!
+//! let mut volume = vec![0; 16 * 512];
+//! format(&mut volume, 16, 8)?;
+//! assert_eq!(free_count(&volume)?, 14);
+//! assert_eq!(find(&volume, b"A1"), Err(Refusal::NotThere));
+//!
+//! // The file "A1" of 514 bytes, as a store list: word indices and values, then a fence.
+//! let stores: &[[u64; 2]] = &[
+//!     [65, 2], [66, 1088],                        // the directory's log: page 2, one entry
+//!     [72, 1], [73, 5], [74, 2624],               // inode 1: valid, its log in page 5, one entry
+//!     [128, 3], [129, 1], [130, 2], [131, 12609], // add inode 1, 2 bytes, "A1"
+//!     [255, 0x6574 << 48], [256, 0x7478],         // "te" at the end of page 3, "xt" in page 4
+//!     [320, 1], [322, 3], [323, 2], [324, 514],   // file pages 0 and 1 are pages 3 and 4
+//!     [u64::MAX, 0],
+//! ];
+//! let list = stores.concat();
+//! carry_out(&mut volume, &list, list.len() as u64)?;
+//! assert_eq!(find(&volume, b"A1")?, 1);
+//! assert_eq!(size(&volume, 1)?, 514);
+//! assert_eq!(free_count(&volume)?, 10);
+//!
+//! let mut buffer = *b"old bytes";
+//! assert_eq!(read(&volume, 1, 509, &mut buffer)?, 5);
+//! assert_eq!(&buffer, b"\0textytes");
+//!
+//! let mut name = [7; 33];
+//! assert_eq!(kth_name(&volume, 0, &mut name)?, 2);
+//! assert_eq!(&name[..3], b"A1\0");
+//! assert_eq!(name[32], 7);
+//! # Ok::<(), Refusal>(())
+//! ```
+
+#![warn(missing_docs)]
+
+pub use refusal::{Answer, Refusal};
+
+/// The functions of libhost_calls.a. A slice is a pointer and a length; the answer is the call's number,
+/// 0 where it has none, or minus the refusal's number.
+mod exports {
+    extern "C" {
+        pub fn volume_format(volume: *mut u8, len: usize, pages: u64, inodes: u64) -> i64;
+        pub fn volume_carry_out(
+            volume: *mut u8,
+            len: usize,
+            list: *const u64,
+            list_len: usize,
+            count: u64,
+        ) -> i64;
+        pub fn volume_find(volume: *const u8, len: usize, name: *const u8, name_len: usize) -> i64;
+        pub fn volume_size(volume: *const u8, len: usize, inode: u64) -> i64;
+        pub fn volume_read(
+            volume: *const u8,
+            len: usize,
+            inode: u64,
+            offset: u64,
+            buffer: *mut u8,
+            buffer_len: usize,
+        ) -> i64;
+        pub fn volume_kth_name(
+            volume: *const u8,
+            len: usize,
+            k: u64,
+            buffer: *mut u8,
+            buffer_len: usize,
+        ) -> i64;
+        pub fn volume_free_count(volume: *const u8, len: usize) -> i64;
+    }
+}
+
+/// What a number that a compiled call answered means.
+///
+/// # Panics
+///
+/// Panics if it is minus a number that no refusal has; no call answers such a number.
+fn answer(code: i64) -> Answer {
+    u64::try_from(code).map_err(|_| {
+        Refusal::with_number(code.unsigned_abs())
+            .unwrap_or_else(|| panic!("a call answered {code}, which no refusal has"))
+    })
+}
+
+/// Format: makes the slice an empty volume of `pages` pages and `inodes` inodes.
+///
+/// Zeroes page 0 and the inode table, stores the header, and leaves the bytes of the other pages. Works
+/// directly, without a store list. The refusal is 2 ([`Refusal::NoVolume`]), from the slice's length and
+/// the two sizes alone.
+///
+/// ```
+/// use calls::{format, Refusal};
+///
+/// let mut volume = vec![7; 16 * 512];
+/// assert_eq!(format(&mut volume, 17, 8), Err(Refusal::NoVolume));
+/// assert_eq!(volume, vec![7; 16 * 512]);
+/// assert_eq!(format(&mut volume, 16, 8), Ok(()));
+/// assert_eq!(volume[..9], [16, 0, 0, 0, 0, 0, 0, 0, 8]);
+/// assert_eq!(volume[1024..], [7; 14 * 512]);
+/// ```
+pub fn format(volume: &mut [u8], pages: u64, inodes: u64) -> Result<(), Refusal> {
+    // SAFETY: the pointer and the length are those of a slice that is lent for the call.
+    let code = unsafe { exports::volume_format(volume.as_mut_ptr(), volume.len(), pages, inodes) };
+    answer(code).map(|_| ())
+}
+
+/// Carry out: stores the first `count` words of a list, pairs of word index and value, in list order.
+///
+/// A pair whose index is 2^64−1 is a fence, and its value is 0; the last pair is a fence. The refusals are
+/// 2 ([`Refusal::NoVolume`]) and 13 ([`Refusal::BadList`]), judged before the first store. A count of 0
+/// stores nothing.
+///
+/// ```
+/// use calls::{carry_out, format, Refusal};
+///
+/// let mut volume = vec![0; 16 * 512];
+/// format(&mut volume, 16, 8)?;
+/// let list = [200, 513, u64::MAX, 0];
+/// assert_eq!(carry_out(&mut volume, &list, 2), Err(Refusal::BadList));
+/// assert_eq!(carry_out(&mut volume, &list, 4), Ok(()));
+/// assert_eq!(volume[1600..1608], [1, 2, 0, 0, 0, 0, 0, 0]);
+/// # Ok::<(), Refusal>(())
+/// ```
+pub fn carry_out(volume: &mut [u8], list: &[u64], count: u64) -> Result<(), Refusal> {
+    // SAFETY: the pointers and the lengths are those of slices that are lent for the call.
+    let code = unsafe {
+        exports::volume_carry_out(
+            volume.as_mut_ptr(),
+            volume.len(),
+            list.as_ptr(),
+            list.len(),
+            count,
+        )
+    };
+    answer(code).map(|_| ())
+}
+
+/// Find: answers the inode that a name leads to.
+///
+/// The refusals are 2 ([`Refusal::NoVolume`]), 3 ([`Refusal::Damaged`]), 4 ([`Refusal::JournalOpen`]), 5
+/// ([`Refusal::BadName`]) and 6 ([`Refusal::NotThere`]).
+///
+/// ```
+/// use calls::{find, format, Refusal};
+///
+/// let mut volume = vec![0; 16 * 512];
+/// assert_eq!(find(&volume, b"A1"), Err(Refusal::NoVolume));
+/// format(&mut volume, 16, 8)?;
+/// assert_eq!(find(&volume, b"A1"), Err(Refusal::NotThere));
+/// assert_eq!(find(&volume, b"A/1"), Err(Refusal::BadName));
+/// # Ok::<(), Refusal>(())
+/// ```
+pub fn find(volume: &[u8], name: &[u8]) -> Answer {
+    // SAFETY: the pointers and the lengths are those of slices that are lent for the call.
+    answer(unsafe {
+        exports::volume_find(volume.as_ptr(), volume.len(), name.as_ptr(), name.len())
+    })
+}
+
+/// Size: answers a file's size in bytes.
+///
+/// The refusals are 2 ([`Refusal::NoVolume`]), 3 ([`Refusal::Damaged`]), 4 ([`Refusal::JournalOpen`]) and
+/// 6 ([`Refusal::NotThere`]), which inode 0, the directory, gets too.
+///
+/// ```
+/// use calls::{format, size, Refusal};
+///
+/// let mut volume = vec![0; 16 * 512];
+/// format(&mut volume, 16, 8)?;
+/// assert_eq!(size(&volume, 1), Err(Refusal::NotThere));
+/// # Ok::<(), Refusal>(())
+/// ```
+pub fn size(volume: &[u8], inode: u64) -> Answer {
+    // SAFETY: the pointer and the length are those of a slice that is lent for the call.
+    answer(unsafe { exports::volume_size(volume.as_ptr(), volume.len(), inode) })
+}
+
+/// Read: copies a file's bytes from the offset on into the buffer, as many as the file has there and the
+/// buffer takes; answers how many.
+///
+/// The rest of the buffer keeps its bytes. At or past the file's end the answer is 0. The refusals are 2
+/// ([`Refusal::NoVolume`]), 3 ([`Refusal::Damaged`]), 4 ([`Refusal::JournalOpen`]) and 6
+/// ([`Refusal::NotThere`]).
+///
+/// ```
+/// use calls::{format, read, Refusal};
+///
+/// let mut volume = vec![0; 16 * 512];
+/// format(&mut volume, 16, 8)?;
+/// let mut buffer = [7; 20];
+/// assert_eq!(read(&volume, 1, 0, &mut buffer), Err(Refusal::NotThere));
+/// assert_eq!(buffer, [7; 20]);
+/// # Ok::<(), Refusal>(())
+/// ```
+pub fn read(volume: &[u8], inode: u64, offset: u64, buffer: &mut [u8]) -> Answer {
+    // SAFETY: the pointers and the lengths are those of slices that are lent for the call.
+    answer(unsafe {
+        exports::volume_read(
+            volume.as_ptr(),
+            volume.len(),
+            inode,
+            offset,
+            buffer.as_mut_ptr(),
+            buffer.len(),
+        )
+    })
+}
+
+/// K-th name (k from 0): writes the name and zeros after it into the first 32 bytes of the buffer; answers
+/// the name's length.
+///
+/// Bytes past 32 stay. The refusals are 1 ([`Refusal::ShortMemory`], a buffer under 32 bytes), 2
+/// ([`Refusal::NoVolume`]), 3 ([`Refusal::Damaged`]), 4 ([`Refusal::JournalOpen`]) and 6
+/// ([`Refusal::NotThere`], k too large).
+///
+/// ```
+/// use calls::{format, kth_name, Refusal};
+///
+/// let mut volume = vec![0; 16 * 512];
+/// format(&mut volume, 16, 8)?;
+/// assert_eq!(kth_name(&volume, 0, &mut [0; 31]), Err(Refusal::ShortMemory));
+/// assert_eq!(kth_name(&volume, 0, &mut [0; 32]), Err(Refusal::NotThere));
+/// # Ok::<(), Refusal>(())
+/// ```
+pub fn kth_name(volume: &[u8], k: u64, buffer: &mut [u8]) -> Answer {
+    // SAFETY: the pointers and the lengths are those of slices that are lent for the call.
+    answer(unsafe {
+        exports::volume_kth_name(
+            volume.as_ptr(),
+            volume.len(),
+            k,
+            buffer.as_mut_ptr(),
+            buffer.len(),
+        )
+    })
+}
+
+/// Count of free pages.
+///
+/// The refusals are 2 ([`Refusal::NoVolume`]), 3 ([`Refusal::Damaged`]) and 4 ([`Refusal::JournalOpen`]).
+///
+/// ```
+/// use calls::{format, free_count, Refusal};
+///
+/// let mut volume = vec![0; 40 * 512];
+/// format(&mut volume, 40, 32)?;
+/// assert_eq!(free_count(&volume), Ok(35));
+/// volume[64] = 16; // the journal's dequeue position
+/// assert_eq!(free_count(&volume), Err(Refusal::Damaged));
+/// # Ok::<(), Refusal>(())
+/// ```
+pub fn free_count(volume: &[u8]) -> Answer {
+    // SAFETY: the pointer and the length are those of a slice that is lent for the call.
+    answer(unsafe { exports::volume_free_count(volume.as_ptr(), volume.len()) })
+}

@@ -1,0 +1,240 @@
+//! One call, made twice: compiled on lent memory, and by the reference model on a copy.
+
+use crate::lent::Lent;
+use reference::{judge, Answer, FENCE};
+use samples::{any_name, any_number, Random};
+use std::collections::BTreeMap;
+
+/// How often each call gave each answer: by the call's name and the refusal's number, 0 for done.
+#[derive(Debug, Default)]
+pub struct Counts(BTreeMap<(&'static str, u64), u64>);
+
+impl Counts {
+    fn count(&mut self, call: &'static str, answer: Answer) {
+        let number = answer.err().map_or(0, |refusal| refusal.number());
+        *self.0.entry((call, number)).or_default() += 1;
+    }
+
+    /// Checks that each of these calls gave each of these answers, `times` at least.
+    #[track_caller]
+    pub fn reached(&self, calls: &[&'static str], numbers: &[u64], times: u64) {
+        for &call in calls {
+            for &number in numbers {
+                let found = self.0.get(&(call, number)).copied().unwrap_or(0);
+                assert!(found >= times, "{call} {number}: {found} times; {self:?}");
+            }
+        }
+    }
+}
+
+/// The calls that read a volume.
+pub const READINGS: [&str; 5] = ["find", "size", "read", "kth_name", "free_count"];
+
+/// A volume on which calls are compared. It may hold anything.
+pub struct Compared<'a> {
+    bytes: &'a [u8],
+    volume: Lent<u8>,
+    counts: &'a mut Counts,
+}
+
+impl<'a> Compared<'a> {
+    /// Lends these bytes to the compiled calls, from `shift` bytes into a word on.
+    pub fn new(bytes: &'a [u8], shift: usize, counts: &'a mut Counts) -> Compared<'a> {
+        let volume = Lent::new(bytes, shift);
+        Compared {
+            bytes,
+            volume,
+            counts,
+        }
+    }
+
+    /// Checks an answer, and that a call left the volume as it was.
+    #[track_caller]
+    fn same(&mut self, call: &'static str, arguments: &str, compiled: Answer, expected: Answer) {
+        assert_eq!(compiled, expected, "{call}({arguments})");
+        assert!(self.volume.holds(self.bytes), "{call} changed the volume");
+        self.counts.count(call, expected);
+    }
+
+    /// Find.
+    pub fn find(&mut self, name: &[u8]) {
+        let lent = Lent::new(name, name.len() % 8);
+        let compiled = calls::find(self.volume.slice(), lent.slice());
+        let expected = reference::find(self.bytes, name);
+        self.same("find", &format!("{name:?}"), compiled, expected);
+        assert!(lent.holds(name), "find changed the name");
+    }
+
+    /// Size.
+    pub fn size(&mut self, inode: u64) {
+        let compiled = calls::size(self.volume.slice(), inode);
+        let expected = reference::size(self.bytes, inode);
+        self.same("size", &format!("{inode}"), compiled, expected);
+    }
+
+    /// Count of free pages.
+    pub fn free_count(&mut self) {
+        let compiled = calls::free_count(self.volume.slice());
+        let expected = reference::free_count(self.bytes);
+        self.same("free_count", "", compiled, expected);
+    }
+
+    /// Read, into a buffer that holds these bytes.
+    pub fn read(&mut self, inode: u64, offset: u64, buffer: &[u8]) {
+        let mut lent = Lent::new(buffer, buffer.len() % 8);
+        let mut copy = buffer.to_vec();
+        let compiled = calls::read(self.volume.slice(), inode, offset, lent.slice_mut());
+        let expected = reference::read(self.bytes, inode, offset, &mut copy);
+        let arguments = format!("{inode}, {offset}, {} bytes", buffer.len());
+        self.same("read", &arguments, compiled, expected);
+        assert!(lent.holds(&copy), "read({arguments}) left other bytes");
+    }
+
+    /// K-th name, into a buffer that holds these bytes.
+    pub fn kth_name(&mut self, k: u64, buffer: &[u8]) {
+        let mut lent = Lent::new(buffer, buffer.len() % 8);
+        let mut copy = buffer.to_vec();
+        let compiled = calls::kth_name(self.volume.slice(), k, lent.slice_mut());
+        let expected = reference::kth_name(self.bytes, k, &mut copy);
+        let arguments = format!("{k}, {} bytes", buffer.len());
+        self.same("kth_name", &arguments, compiled, expected);
+        assert!(lent.holds(&copy), "kth_name({arguments}) left other bytes");
+    }
+
+    /// Format, on a copy of the volume.
+    pub fn format(&mut self, pages: u64, inodes: u64) {
+        let mut lent = Lent::new(self.bytes, pages as usize % 8);
+        let mut copy = self.bytes.to_vec();
+        let compiled = calls::format(lent.slice_mut(), pages, inodes).map(|()| 0);
+        let expected = reference::format(&mut copy, pages, inodes).map(|()| 0);
+        let arguments = format!("{pages}, {inodes}");
+        self.same("format", &arguments, compiled, expected);
+        assert!(lent.holds(&copy), "format({arguments}) left other bytes");
+    }
+
+    /// Carry out, on a copy of the volume; answers what it then holds.
+    pub fn carry_out(&mut self, list: &[u64], count: u64) -> Vec<u8> {
+        let mut lent = Lent::new(self.bytes, list.len() % 8);
+        let words = Lent::new(list, 0);
+        let mut copy = self.bytes.to_vec();
+        let compiled = calls::carry_out(lent.slice_mut(), words.slice(), count).map(|()| 0);
+        let expected = reference::carry_out(&mut copy, list, count).map(|()| 0);
+        let arguments = format!("{} words, {count}", list.len());
+        self.same("carry_out", &arguments, compiled, expected);
+        assert!(words.holds(list), "carry_out({arguments}) changed the list");
+        assert!(lent.holds(&copy), "carry_out({arguments}) left other bytes");
+        copy
+    }
+}
+
+/// Makes every call on a volume, some of them about what stands there and some with any arguments.
+pub fn compare_all(random: &mut Random, bytes: &[u8], counts: &mut Counts) {
+    compare_readings(random, bytes, counts);
+    let mut compared = Compared::new(bytes, 0, counts);
+    let pages = bytes.len() as u64 / 512;
+    compared.format(pages, 8 * random.between(1, 32));
+    compared.format(any_number(random), any_number(random));
+    let list = any_list(random, bytes.len() as u64 / 8);
+    let count = match random.below(4) {
+        0 => any_number(random),
+        1 => random.below(list.len() as u64 + 2),
+        _ => list.len() as u64,
+    };
+    compared.carry_out(&list, count);
+}
+
+/// Makes every reading call on a volume.
+pub fn compare_readings(random: &mut Random, bytes: &[u8], counts: &mut Counts) {
+    let mut compared = Compared::new(bytes, random.below(8) as usize, counts);
+    compared.free_count();
+    compared.find(&any_name(random));
+    compared.size(any_number(random));
+    compared.size(random.below(10));
+    let buffer = any_buffer(random);
+    compared.read(any_number(random), any_number(random), &buffer);
+    compared.read(random.below(10), random.below(2_000), &buffer);
+    compared.kth_name(any_number(random), &buffer);
+    let shorter = random.bytes(40);
+    compared.kth_name(random.below(3), &shorter[..random.between(28, 40) as usize]);
+    if let Ok(judged) = judge(bytes) {
+        if let Some((name, inode)) = random.choose(&judged.names) {
+            compared.find(name);
+            compared.find(&altered(random, name));
+            compared.size(*inode);
+        }
+        compared.kth_name(random.below(judged.names.len() as u64 + 1), &buffer);
+        let files: Vec<(&u64, u64)> = judged
+            .files
+            .iter()
+            .map(|(k, file)| (k, file.size))
+            .collect();
+        if let Some((inode, size)) = random.choose(&files) {
+            compared.read(**inode, any_offset(random, *size), &buffer);
+            compared.read(**inode, any_offset(random, *size), &buffer);
+        }
+    }
+}
+
+/// A buffer's bytes; often near the limits of a name or a page.
+fn any_buffer(random: &mut Random) -> Vec<u8> {
+    let length = match random.below(8) {
+        0 => random.below(70_000),
+        1 | 2 => random.between(30, 34),
+        3 => random.between(510, 514),
+        _ => random.below(1_200),
+    };
+    random.bytes(length as usize)
+}
+
+/// A name that is nearly another: one byte changed, taken away or added.
+fn altered(random: &mut Random, name: &[u8]) -> Vec<u8> {
+    let mut name = name.to_vec();
+    let place = random.below(name.len() as u64) as usize;
+    match random.below(3) {
+        0 => name[place] ^= 1 << random.below(8),
+        1 => name.truncate(place),
+        _ => name.push(b'x'),
+    }
+    name
+}
+
+/// An offset in a file of this size or around it.
+fn any_offset(random: &mut Random, size: u64) -> u64 {
+    let near = match random.below(5) {
+        0 => return any_number(random),
+        1 => 0,
+        2 => size,
+        3 => 512 * random.below(size / 512 + 1),
+        _ => random.below(size + 1),
+    };
+    (near + random.below(5)).saturating_sub(2)
+}
+
+/// A list for carry out on a volume of so many words: often a store list, often nearly one.
+pub fn any_list(random: &mut Random, words: u64) -> Vec<u64> {
+    let wrong = random.once_in(2);
+    let mut list = Vec::new();
+    for _ in 0..random.below(9) {
+        let index = match random.below(12) {
+            0 if wrong => any_number(random),
+            1 if wrong => words,
+            2 => words.saturating_sub(1),
+            3 | 4 => FENCE,
+            5 => random.below(140),
+            _ => random.below(words),
+        };
+        let value = match index {
+            FENCE if wrong && random.once_in(4) => any_number(random),
+            FENCE => 0,
+            _ => any_number(random),
+        };
+        list.extend([index, value]);
+    }
+    if !(wrong && random.once_in(3)) {
+        list.extend([FENCE, 0]);
+    }
+    if wrong && random.once_in(6) {
+        list.pop();
+    }
+    list
+}

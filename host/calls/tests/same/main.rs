@@ -1,0 +1,14 @@
+//! The compiled calls against the reference model: every answer, and every byte of lent memory.
+//!
+//! Each module has one kind of volumes; [`compare`] makes every call on a volume twice, compiled and by
+//! the model. What is random comes from the seeds in the tests, so that a failure comes back.
+
+mod compare;
+mod damaged;
+mod histories;
+mod large;
+mod lent;
+mod lists;
+mod made_up;
+mod noise;
+mod shapes;

@@ -1,0 +1,106 @@
+//! The refusals: what the screen says when a call is not done.
+//!
+//! ```
+//! use refusal::Refusal;
+//!
+//! assert_eq!(Refusal::NoSpace.number(), 12);
+//! assert_eq!(Refusal::with_number(12), Some(Refusal::NoSpace));
+//! assert_eq!(Refusal::NoSpace.to_string(), "no space");
+//! ```
+
+#![warn(missing_docs)]
+#![forbid(unsafe_code)]
+
+use std::fmt;
+
+/// What a call answers that answers a number: the number, or the refusal.
+pub type Answer = Result<u64, Refusal>;
+
+/// A refusal. It has no content but its number; of several that apply, the lowest is answered.
+#[derive(Clone, Copy, Debug, PartialEq, Eq, PartialOrd, Ord, Hash)]
+pub enum Refusal {
+    /// 1: the store list to be filled has under 4,096 words, or the name buffer under 32 bytes.
+    ShortMemory = 1,
+    /// 2: the slice length, word 0, 1 or 2, or format's P or N break their limits.
+    NoVolume = 2,
+    /// 3: otherwise not accepted.
+    Damaged = 3,
+    /// 4: the journal is open, for any call but format, recover and carry out.
+    JournalOpen = 4,
+    /// 5: a name's length or one of its bytes is not allowed.
+    BadName = 5,
+    /// 6: the name is absent, the inode invalid or out of range, or k too large.
+    NotThere = 6,
+    /// 7: create's name, or link's new name, stands already.
+    Taken = 7,
+    /// 8: a write of over 4,096 bytes.
+    LongWrite = 8,
+    /// 9: a write's end, or set size's size, over 65,536.
+    PastTheEnd = 9,
+    /// 10: all inodes are valid.
+    NoInode = 10,
+    /// 11: a 225th name.
+    DirectoryFull = 11,
+    /// 12: no run long enough for the data, or no page left for the log where it needs one.
+    NoSpace = 12,
+    /// 13: carry out's list is not a store list for this volume.
+    BadList = 13,
+}
+
+impl Refusal {
+    /// All refusals, in the order of their numbers.
+    pub const ALL: [Refusal; 13] = [
+        Refusal::ShortMemory,
+        Refusal::NoVolume,
+        Refusal::Damaged,
+        Refusal::JournalOpen,
+        Refusal::BadName,
+        Refusal::NotThere,
+        Refusal::Taken,
+        Refusal::LongWrite,
+        Refusal::PastTheEnd,
+        Refusal::NoInode,
+        Refusal::DirectoryFull,
+        Refusal::NoSpace,
+        Refusal::BadList,
+    ];
+
+    /// The refusal's number in document 01's table, 1 to 13.
+    pub fn number(self) -> u64 {
+        self as u64
+    }
+
+    /// The refusal with this number; none where no refusal has it.
+    pub fn with_number(number: u64) -> Option<Refusal> {
+        Refusal::ALL
+            .into_iter()
+            .find(|refusal| refusal.number() == number)
+    }
+
+    /// The refusal's word in document 01's table.
+    pub fn word(self) -> &'static str {
+        match self {
+            Refusal::ShortMemory => "short memory",
+            Refusal::NoVolume => "no volume",
+            Refusal::Damaged => "damaged",
+            Refusal::JournalOpen => "journal open",
+            Refusal::BadName => "bad name",
+            Refusal::NotThere => "not there",
+            Refusal::Taken => "taken",
+            Refusal::LongWrite => "long write",
+            Refusal::PastTheEnd => "past the end",
+            Refusal::NoInode => "no inode",
+            Refusal::DirectoryFull => "directory full",
+            Refusal::NoSpace => "no space",
+            Refusal::BadList => "bad list",
+        }
+    }
+}
+
+impl fmt::Display for Refusal {
+    fn fmt(&self, out: &mut fmt::Formatter<'_>) -> fmt::Result {
+        out.write_str(self.word())
+    }
+}
+
+impl std::error::Error for Refusal {}

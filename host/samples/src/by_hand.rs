@@ -1,0 +1,119 @@
+//! Volumes and logs made by hand, word by word, without the reference model's own writing.
+
+use reference::format;
+use reference::layout::{head_word, set_word, tail_word, valid_word, word};
+
+/// A formatted volume whose other pages hold old bytes.
+pub fn formatted(pages: u64, inodes: u64) -> Vec<u8> {
+    let mut volume = vec![0xE7; pages as usize * 512];
+    assert_eq!(format(&mut volume, pages, inodes), Ok(()));
+    volume
+}
+
+/// P = 20, N = 16, so pages 3 to 19 hold logs and data. "A1" is inode 1 with log page 4, data
+/// pages 5 and 6 and 700 bytes; "B2" is inode 2 with an empty log; the directory's log is page 3.
+pub fn sample() -> Vec<u8> {
+    let mut volume = formatted(20, 16);
+    let names = [entry_add(1, b"A1"), entry_add(2, b"B2")];
+    put_log(&mut volume, 0, &[3], &names);
+    put_log(&mut volume, 1, &[4], &[entry_write(0, 5, 2, 700)]);
+    put_log(&mut volume, 2, &[], &[]);
+    volume[6 * 512 + 188..7 * 512].fill(0);
+    volume
+}
+
+/// P = 140, N = 16. The directory's log holds 300 names in its middle, and these many in the end.
+pub fn long_directory(standing: u64) -> Vec<u8> {
+    let mut volume = formatted(140, 16);
+    let mut entries: Vec<[u64; 8]> = Vec::new();
+    entries.extend((0..300).map(|number| entry_add(number % 15 + 1, &numbered(number))));
+    entries.extend((standing..300).map(|number| entry_remove(&numbered(number))));
+    let pages: Vec<u64> = (3..).take(entries.len().div_ceil(7)).collect();
+    put_log(&mut volume, 0, &pages, &entries);
+    for inode in 1..=standing.min(15) {
+        put_log(&mut volume, inode, &[], &[]);
+    }
+    volume
+}
+
+/// Bytes of this length, none of them 0.
+pub fn text(length: usize) -> Vec<u8> {
+    (0..length).map(|index| (index % 251) as u8 + 1).collect()
+}
+
+/// The name with this number: "n000", "n001", ...
+pub fn numbered(number: u64) -> Vec<u8> {
+    std::format!("n{number:03}").into_bytes()
+}
+
+/// The words of a volume in a range.
+pub fn words(volume: &[u8], range: std::ops::Range<u64>) -> Vec<u64> {
+    range.map(|index| word(volume, index)).collect()
+}
+
+/// Kind 1, by hand.
+pub fn entry_write(file_page: u64, data_page: u64, count: u64, size: u64) -> [u64; 8] {
+    [1, file_page, data_page, count, size, 0, 0, 0]
+}
+
+/// Kind 2, by hand.
+pub fn entry_size(size: u64) -> [u64; 8] {
+    [2, size, 0, 0, 0, 0, 0, 0]
+}
+
+/// Kind 3, by hand.
+pub fn entry_add(inode: u64, name: &[u8]) -> [u64; 8] {
+    named(3, inode, name)
+}
+
+/// Kind 4, by hand.
+pub fn entry_remove(name: &[u8]) -> [u64; 8] {
+    named(4, 0, name)
+}
+
+fn named(kind: u64, inode: u64, name: &[u8]) -> [u64; 8] {
+    let mut entry = [kind, inode, name.len() as u64, 0, 0, 0, 0, 0];
+    for (index, &byte) in name.iter().enumerate() {
+        entry[3 + index / 8] |= u64::from(byte) << (8 * (index % 8));
+    }
+    entry
+}
+
+/// Puts a log on a volume by hand, in these pages, and makes its inode valid.
+pub fn put_log(volume: &mut [u8], inode: u64, pages: &[u64], entries: &[[u64; 8]]) {
+    assert_eq!(pages.len(), entries.len().div_ceil(7));
+    set_word(volume, valid_word(inode), 1);
+    set_word(
+        volume,
+        head_word(inode),
+        pages.first().copied().unwrap_or(99),
+    );
+    set_word(volume, tail_word(inode), 0);
+    for (part, &page) in entries.chunks(7).zip(pages) {
+        for (entry, place) in part.iter().zip(0..) {
+            put_entry(volume, page, place, entry);
+        }
+        set_word(
+            volume,
+            tail_word(inode),
+            page * 512 + 64 * part.len() as u64,
+        );
+    }
+    for two in pages.windows(2) {
+        set_word(volume, two[0] * 64 + 56, two[1]);
+    }
+}
+
+/// Puts one entry by hand at a place (0 to 6) of a log page.
+pub fn put_entry(volume: &mut [u8], page: u64, place: u64, entry: &[u64; 8]) {
+    for (&value, index) in entry.iter().zip(page * 64 + place * 8..) {
+        set_word(volume, index, value);
+    }
+}
+
+/// Zeroes a page by hand.
+pub fn zero_page(volume: &mut [u8], page: u64) {
+    for index in page * 64..page * 64 + 64 {
+        set_word(volume, index, 0);
+    }
+}

@@ -1,0 +1,41 @@
+//! What the tests of the workspace share: volumes, calls and numbers.
+//!
+//! A test of the reference model and a test of the compiled calls take their volumes from the same
+//! makers: by hand ([`sample`], [`put_log`]), by random calls and power cuts ([`used_volume`],
+//! [`any_call`]), put together at random ([`made_up`]), damaged ([`change_live_word`],
+//! [`flip_live_bit`]), and noise ([`headed_noise`]). What is random comes from a [`Random`] alone, so that a seed gives the same
+//! volumes again.
+//!
+//! ```
+//! use reference::random::Random;
+//! use samples::{create, done, formatted, made_up_sized};
+//!
+//! let mut volume = formatted(16, 8);
+//! assert_eq!(done(&mut volume, &create(b"A1")), 46);
+//! assert_eq!(made_up_sized(&mut Random::new(1), 40, 16).len(), 40 * 512);
+//! ```
+
+#![warn(missing_docs)]
+#![forbid(unsafe_code)]
+
+mod by_hand;
+mod calls;
+mod damage;
+mod made_up;
+mod noise;
+mod numbers;
+mod random_calls;
+
+pub use by_hand::{
+    entry_add, entry_remove, entry_size, entry_write, formatted, long_directory, numbered,
+    put_entry, put_log, sample, text, words, zero_page,
+};
+pub use calls::{
+    clean, create, done, filled, link, map_of, marked_list, rename, run, set_size, unlink, write,
+};
+pub use damage::{change_live_word, flip_live_bit, live_words};
+pub use made_up::{made_up, made_up_sized};
+pub use noise::headed_noise;
+pub use numbers::{any_name, any_number, NUMBERS};
+pub use random_calls::{any_call, any_calls, random_cut, used_volume};
+pub use reference::random::Random;
