@@ -82,11 +82,11 @@ pub fn unlink_checks(v: &[u8], places: &[u16; 28672], count: usize, name: &[u8])
     if !lookup::is_name(name) {
         return Answer::BadName;
     }
-    let inode = lookup::find_name(v, places, count, name);
-    if inode == 0 {
+    let leads = lookup::find_name(v, places, count, name);
+    if leads == 0 {
         return Answer::NotThere;
     }
-    Answer::Number(inode)
+    Answer::Number(leads)
 }
 
 // Answers Number with the inode that the old name leads to; BadName where either is no name, or NotThere.
