@@ -79,7 +79,7 @@ pub fn append_two(
         word: plan::tail_word(k),
         value: tail,
     };
-    let d = Change {
+    let second = Change {
         word: VALID_WORD + 8 * i,
         value: x,
     };
@@ -93,7 +93,7 @@ pub fn append_two(
         plan,
         total,
         c,
-        d,
+        second,
     )
 }
 

@@ -109,39 +109,36 @@ module _ (v l : List ℕ) (o : Opened v l) where
   back-short : length (storeList (64 * word v 0) (recoverGroups (word v))) ≤ length l
   back-short = omega (arith, recover-short (64 * word v 0) (word v) (word v 1) (ready .journal), o .long)
 
-  -- P is the count of pages, c that of open entries, and x the enqueue position; ss are the singles
-  module _ (P c x : ℕ) (ss : List ℕ) (p : P ≡ word v 0) (e : c ≡ openCount (word v)) (y : x ≡ word v enqueueWord)
+  -- the plan that puts c entries back
+  abbrev plan : ℕ → Plan
+  plan c = record { before = c; start = 0; count = 0; log = record { from = 0; pages = 0; first = 0; entries = 0 }; after = 0 }
+
+  pub back-fits : (c : ℕ) → c ≡ openCount (word v) → Fits (plan c)
+  back-fits c e =
+      record {
+        before-fit = open-few c e;
+        after-fit = omega arith;
+        data-fit = omega arith;
+        data-in = omega arith;
+        log-fits = record { pages-fit = omega arith; first-slot = omega arith; entries-fit = omega arith };
+      }
+
+  -- P is the count of pages, c that of open entries, d the change that closes the journal, and ss are the singles
+  module _ (P c : ℕ) (d : Change) (ss : List ℕ) (p : P ≡ word v 0) (e : c ≡ openCount (word v)) (x : d .word ≡ dequeueWord) (y : d .value ≡ word v enqueueWord)
       (b : singleStores ss 0 c ≡ backStores (word v) c (word v dequeueWord)) where
-    -- the plan and the change of dequeue
-    abbrev plan : Plan
-    plan = record { before = c; start = 0; count = 0; log = record { from = 0; pages = 0; first = 0; entries = 0 }; after = 0 }
-
-    abbrev dequeued : Change
-    dequeued = record { word = dequeueWord; value = x }
-
-    pub back-fits : Fits plan
-    back-fits =
-        record {
-          before-fit = open-few c e;
-          after-fit = omega arith;
-          data-fit = omega arith;
-          data-in = omega arith;
-          log-fits = record { pages-fit = omega arith; first-slot = omega arith; entries-fit = omega arith };
-        }
-
     module _ (ps ws ds : List ℕ) where
-      no-rest : restStores plan ss ps ws ds ≡ (λ w. none)
+      no-rest : restStores (plan c) ss ps ws ds ≡ (λ w. none)
       unfolding logStores layEntries valuesFrom indexOf
-      no-rest = only-log plan refl refl refl ss ps ws ds ∙ fun-ext (λ w. refl)
+      no-rest = only-log (plan c) refl refl refl ss ps ws ds ∙ fun-ext (λ w. refl)
 
-      back-groups : storeList (64 * P) (commitOne (planStores plan ss ps ws ds) (dequeueWord, x)) ≡ storeList (64 * word v 0) (recoverGroups (word v))
+      back-groups : storeList (64 * P) (commitOne (planStores (plan c) ss ps ws ds) (d .word, d .value)) ≡ storeList (64 * word v 0) (recoverGroups (word v))
       unfolding commitOne planStores recoverGroups
-      back-groups = rw (o .opened, no-rest, both-none, b, e, old-back (word v), p, y)
+      back-groups = rw (o .opened, no-rest, both-none, b, e, old-back (word v), p, x, y)
 
-      pub back-room : length (storeList (64 * P) (commitOne (planStores plan ss ps ws ds) (dequeueWord, x))) ≤ length l
+      pub back-room : length (storeList (64 * P) (commitOne (planStores (plan c) ss ps ws ds) (d .word, d .value))) ≤ length l
       back-room = rw back-groups back-short
 
-      pub back-listed : (r : ℕ) (l′ : List ℕ) → Emitted l 0 (storeList (64 * P) (commitOne (planStores plan ss ps ws ds) (dequeueWord, x))) r l′
+      pub back-listed : (r : ℕ) (l′ : List ℕ) → Emitted l 0 (storeList (64 * P) (commitOne (planStores (plan c) ss ps ws ds) (d .word, d .value))) r l′
           → Emitted l 0 (storeList (64 * word v 0) (recoverGroups (word v))) r l′
       back-listed r l′ h = rw back-groups at h
 

@@ -5,7 +5,7 @@ ghost use Prim.Native.Nat.{_*_, _≤_, _<_};
 ghost use lib.Dec.{leb};
 ghost use lib.ListN.{length};
 ghost use Rattle.model.specs.Words.{word};
-ghost use Rattle.model.specs.Journal.{dequeueWord, targetWord, oldWord, view};
+ghost use Rattle.model.specs.Journal.{dequeueWord, enqueueWord, targetWord, oldWord, view};
 ghost use Rattle.model.specs.Accept.{isValid};
 ghost use Rattle.model.specs.FileMap.{clean, recover};
 ghost use Rattle.model.specs.Stores.{storeList};
@@ -45,7 +45,7 @@ fn not_valid(v: &[u8], inode: u64, inodes: u64) -> bool
 }
 
 // Lays the entries of a clean log of inode k into the table, and answers how many: those of the directory's names, which stand at the
-// first count places, or those of a file.
+// first count places, or those of a file. (A log that is not good, which a valid file of an accepted volume does not have, has none.)
 // Example: where "a" and "b" are the names, which lead to inodes 3 and 5, clean_entries(v, places, 2, 0, words) is 2, and where file 3
 // has its pages 0 and 1 on data pages 70 and 71, clean_entries(v, places, 2, 3, words) is 1.
 fn clean_entries(
@@ -227,6 +227,18 @@ fn plan_back(v: &[u8], singles: &mut [u64; 32], count: usize)
     }
 }
 
+// Answers the change that closes the journal: dequeue becomes enqueue.
+// Example: with enqueue 5 closing(v) is value 5 in word 8.
+fn closing(v: &[u8]) -> Change
+    requires { ⌜ 512 ≤ length (now v) ⌝ }
+    ensures { λ r. ⌜ (r .word ≡ dequeueWord) × (r .value ≡ word (now (v .entry)) enqueueWord) ⌝ }
+{
+    Change {
+        word: commit::DEQUEUE_WORD,
+        value: words::word_at(v, commit::ENQUEUE_WORD),
+    }
+}
+
 // Fills the list of recover: a first group with the old values of the open entries, and a second that makes dequeue equal to
 // enqueue. Answers the count of words filled.
 // Example: with dequeue 3 and enqueue 5, where words 22 to 25 are 66, 1088, 72 and 1, the words are 66, 1088, 72, 1, a fence, 8, 5
@@ -255,11 +267,16 @@ fn list_back(v: &[u8], list: &mut [u64]) -> usize
         log,
         after: 0,
     };
-    let change = Change {
-        word: commit::DEQUEUE_WORD,
-        value: words::word_at(v, commit::ENQUEUE_WORD),
-    };
-    commit::commit_one(list, &singles, &table, &words, &fresh, plan, pages, change)
+    commit::commit_one(
+        list,
+        &singles,
+        &table,
+        &words,
+        &fresh,
+        plan,
+        pages,
+        closing(v),
+    )
 }
 
 // Fills the list that puts the old values of the journal's open entries back, and answers Number with the count of words filled: 0

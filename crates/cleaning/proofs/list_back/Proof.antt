@@ -12,7 +12,7 @@ list-back-spec =
     (λ c κs. omega (arith, open-long))
     (λ c κs. search (open-dequeue, open-enqueue, open-long, needs))
     (λ c κs. search (open-dequeue, open-long, open-few, needs))
-    (λ c κs. omega (arith, open-long))
+    (λ c κs. search (open-long, needs))
     (λ c κs. (search (back-fits, needs), omega (arith, open-most), omega (arith, open-least), search (back-room, needs)))
     (λ c. search needs)
     (λ c. search (back-listed, needs)))
