@@ -1,6 +1,6 @@
 //! The volumes that are timed.
 
-use reference::layout::word;
+use reference::layout::{set_word, word};
 use reference::{judge, FENCE};
 use samples::{
     create, done, entry_add, entry_remove, entry_write, formatted, put_log, write, zero_page,
@@ -22,6 +22,10 @@ pub struct Subject {
     pub buffer: Vec<u8>,
     /// A store list of 1,176 words that changes nothing.
     pub list: Vec<u64>,
+    /// The same volume with two entries of the journal open.
+    pub open: Vec<u8>,
+    /// A list for the changing calls to fill.
+    pub room: Vec<u64>,
 }
 
 impl Subject {
@@ -39,12 +43,27 @@ impl Subject {
             file: largest.map_or(0, |(&file, _)| file),
             buffer: vec![0; 4_096],
             list: stores(&volume),
+            open: opened(&volume),
+            room: vec![0; 4_096],
             volume: volume.clone(),
         };
         assert_eq!(calls::find(&volume, name), Ok(inode));
         assert_eq!(calls::free_count(&volume), reference::free_count(&volume));
         subject
     }
+}
+
+/// The volume with the directory's head and tail in the journal.
+fn opened(volume: &[u8]) -> Vec<u8> {
+    let mut open = volume.to_vec();
+    for (target, place) in [(65, 0), (66, 1)] {
+        set_word(&mut open, 16 + 2 * place, target);
+        set_word(&mut open, 17 + 2 * place, word(volume, target));
+        set_word(&mut open, target, 0);
+    }
+    set_word(&mut open, 8, 0);
+    set_word(&mut open, 9, 2);
+    open
 }
 
 /// A list of two groups that stores in words of the last pages what they hold.
@@ -82,12 +101,22 @@ fn name(number: u64) -> Vec<u8> {
     .into_bytes()
 }
 
-/// Every page in use: an eighth for the directory's log, the others for files, a third of them log pages.
+/// Nearly every page in use, ten at most left: an eighth for the directory's log, the others for files, a third of them log pages.
 pub fn full(pages: u64) -> Subject {
+    used_up_to(pages, pages)
+}
+
+/// As [`full`], but the upper half of the pages is free.
+pub fn half_full(pages: u64) -> Subject {
+    used_up_to(pages, pages / 2)
+}
+
+/// Every page below `end` in use, as [`full`] says.
+fn used_up_to(pages: u64, end: u64) -> Subject {
     let inodes = inodes_for(pages);
     let mut volume = formatted(pages, inodes);
-    let mut unused = inodes / 8 + 1..pages;
-    let log: Vec<u64> = unused.by_ref().take((pages as usize / 8).max(2)).collect();
+    let mut unused = inodes / 8 + 1..end;
+    let log: Vec<u64> = unused.by_ref().take((end as usize / 8).max(2)).collect();
     let left = unused.end - unused.start;
     let files = (inodes - 1).min(224).min(left / 2);
     put_log(

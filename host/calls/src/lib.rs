@@ -7,35 +7,33 @@
 //! A *volume* is a lent slice of bytes, and every call works from the volume alone. Slices may have any
 //! length and hold any bytes: every call returns, and a refusal leaves all lent memory as it was. A call
 //! keeps nothing between two calls, so calls on different volumes may run at the same time. The reading
-//! calls need about 64 KB of stack for their tables.
+//! calls need about 64 KB of stack for their tables, the changing calls about 88 KB.
+//!
+//! A changing call other than [`format()`] leaves the volume alone and fills a lent *store list* of 4,096 words or
+//! more, which [`carry_out`] then stores.
 //!
 //! # Example
 //!
 //! ```
-//! use calls::{carry_out, find, format, free_count, kth_name, read, size, Refusal};
+//! use calls::{carry_out, create, find, format, free_count, kth_name, read, size, write, Refusal};
 //!
 //! let mut volume = vec![0; 16 * 512];
+//! let mut list = vec![0; 4_096];
 //! format(&mut volume, 16, 8)?;
 //! assert_eq!(free_count(&volume)?, 14);
-//! assert_eq!(find(&volume, b"A1"), Err(Refusal::NotThere));
 //!
-//! // The file "A1" of 514 bytes, as a store list: word indices and values, then a fence.
-//! let stores: &[[u64; 2]] = &[
-//!     [65, 2], [66, 1088],                        // the directory's log: page 2, one entry
-//!     [72, 1], [73, 5], [74, 2624],               // inode 1: valid, its log in page 5, one entry
-//!     [128, 3], [129, 1], [130, 2], [131, 12609], // add inode 1, 2 bytes, "A1"
-//!     [255, 0x6574 << 48], [256, 0x7478],         // "te" at the end of page 3, "xt" in page 4
-//!     [320, 1], [322, 3], [323, 2], [324, 514],   // file pages 0 and 1 are pages 3 and 4
-//!     [u64::MAX, 0],
-//! ];
-//! let list = stores.concat();
-//! carry_out(&mut volume, &list, list.len() as u64)?;
-//! assert_eq!(find(&volume, b"A1")?, 1);
-//! assert_eq!(size(&volume, 1)?, 514);
+//! let count = create(&volume, b"A1", &mut list)?;
+//! assert_eq!(find(&volume, b"A1"), Err(Refusal::NotThere));
+//! carry_out(&mut volume, &list, count)?;
+//! let inode = find(&volume, b"A1")?;
+//!
+//! let count = write(&volume, inode, 510, b"text", &mut list)?;
+//! carry_out(&mut volume, &list, count)?;
+//! assert_eq!(size(&volume, inode)?, 514);
 //! assert_eq!(free_count(&volume)?, 10);
 //!
 //! let mut buffer = *b"old bytes";
-//! assert_eq!(read(&volume, 1, 509, &mut buffer)?, 5);
+//! assert_eq!(read(&volume, inode, 509, &mut buffer)?, 5);
 //! assert_eq!(&buffer, b"\0textytes");
 //!
 //! let mut name = [7; 33];
@@ -47,10 +45,13 @@
 
 #![warn(missing_docs)]
 
+mod changing;
+
+pub use changing::{clean, create, link, recover, rename, set_size, unlink, write};
 pub use refusal::{Answer, Refusal};
 
-/// The functions of libhost_calls.a. A slice is a pointer and a length; the answer is the call's number,
-/// 0 where it has none, or minus the refusal's number.
+/// Format, carry out and the reading calls of libhost_calls.a. A slice is a pointer and a length; the answer is
+/// the call's number, 0 where it has none, or minus the refusal's number.
 mod exports {
     extern "C" {
         pub fn volume_format(volume: *mut u8, len: usize, pages: u64, inodes: u64) -> i64;

@@ -4,7 +4,7 @@
 //! makers: by hand ([`sample`], [`put_log`]), by random calls and power cuts ([`used_volume`],
 //! [`any_call`]), put together at random ([`made_up`]), damaged ([`change_live_word`],
 //! [`flip_live_bit`]), and noise ([`headed_noise`]). What is random comes from a [`Random`] alone, so that a seed gives the same
-//! volumes again.
+//! volumes again. Document 01's cases are rows of one table ([`cases()`]), for any library of the calls.
 //!
 //! ```
 //! use reference::random::Random;
@@ -20,6 +20,7 @@
 
 mod by_hand;
 mod calls;
+mod cases;
 mod damage;
 mod made_up;
 mod noise;
@@ -33,6 +34,7 @@ pub use by_hand::{
 pub use calls::{
     clean, create, done, filled, link, map_of, marked_list, rename, run, set_size, unlink, write,
 };
+pub use cases::{cases, check_case, Before, CarryOut, Case, Library};
 pub use damage::{change_live_word, flip_live_bit, live_words};
 pub use made_up::{made_up, made_up_sized};
 pub use noise::headed_noise;

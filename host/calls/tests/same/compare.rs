@@ -1,9 +1,14 @@
 //! One call, made twice: compiled on lent memory, and by the reference model on a copy.
 
+use crate::compiled::fill;
 use crate::lent::Lent;
-use reference::{judge, Answer, FENCE};
-use samples::{any_name, any_number, Random};
+use reference::{judge, map, Answer, Call, FENCE};
+use samples::{any_call, any_calls, any_name, any_number, Random};
 use std::collections::BTreeMap;
+use std::fmt::Arguments;
+
+/// Stands for "done, with nothing to change" among the numbers of answers.
+pub const NOTHING: u64 = 99;
 
 /// How often each call gave each answer: by the call's name and the refusal's number, 0 for done.
 #[derive(Debug, Default)]
@@ -13,6 +18,10 @@ impl Counts {
     fn count(&mut self, call: &'static str, answer: Answer) {
         let number = answer.err().map_or(0, |refusal| refusal.number());
         *self.0.entry((call, number)).or_default() += 1;
+    }
+
+    fn count_nothing(&mut self, call: &'static str) {
+        *self.0.entry((call, NOTHING)).or_default() += 1;
     }
 
     /// Checks that each of these calls gave each of these answers, `times` at least.
@@ -29,6 +38,25 @@ impl Counts {
 
 /// The calls that read a volume.
 pub const READINGS: [&str; 5] = ["find", "size", "read", "kth_name", "free_count"];
+
+/// The calls that fill a store list.
+pub const CHANGES: [&str; 8] = [
+    "create", "link", "unlink", "rename", "write", "set_size", "clean", "recover",
+];
+
+/// A changing call's name.
+fn name_of(call: &Call) -> &'static str {
+    match call {
+        Call::Create { .. } => "create",
+        Call::Link { .. } => "link",
+        Call::Unlink { .. } => "unlink",
+        Call::Rename { .. } => "rename",
+        Call::Write { .. } => "write",
+        Call::SetSize { .. } => "set_size",
+        Call::Clean { .. } => "clean",
+        Call::Recover => "recover",
+    }
+}
 
 /// A volume on which calls are compared. It may hold anything.
 pub struct Compared<'a> {
@@ -50,7 +78,13 @@ impl<'a> Compared<'a> {
 
     /// Checks an answer, and that a call left the volume as it was.
     #[track_caller]
-    fn same(&mut self, call: &'static str, arguments: &str, compiled: Answer, expected: Answer) {
+    fn same(
+        &mut self,
+        call: &'static str,
+        arguments: Arguments<'_>,
+        compiled: Answer,
+        expected: Answer,
+    ) {
         assert_eq!(compiled, expected, "{call}({arguments})");
         assert!(self.volume.holds(self.bytes), "{call} changed the volume");
         self.counts.count(call, expected);
@@ -61,7 +95,7 @@ impl<'a> Compared<'a> {
         let lent = Lent::new(name, name.len() % 8);
         let compiled = calls::find(self.volume.slice(), lent.slice());
         let expected = reference::find(self.bytes, name);
-        self.same("find", &format!("{name:?}"), compiled, expected);
+        self.same("find", format_args!("{name:?}"), compiled, expected);
         assert!(lent.holds(name), "find changed the name");
     }
 
@@ -69,14 +103,14 @@ impl<'a> Compared<'a> {
     pub fn size(&mut self, inode: u64) {
         let compiled = calls::size(self.volume.slice(), inode);
         let expected = reference::size(self.bytes, inode);
-        self.same("size", &format!("{inode}"), compiled, expected);
+        self.same("size", format_args!("{inode}"), compiled, expected);
     }
 
     /// Count of free pages.
     pub fn free_count(&mut self) {
         let compiled = calls::free_count(self.volume.slice());
         let expected = reference::free_count(self.bytes);
-        self.same("free_count", "", compiled, expected);
+        self.same("free_count", format_args!(""), compiled, expected);
     }
 
     /// Read, into a buffer that holds these bytes.
@@ -86,7 +120,7 @@ impl<'a> Compared<'a> {
         let compiled = calls::read(self.volume.slice(), inode, offset, lent.slice_mut());
         let expected = reference::read(self.bytes, inode, offset, &mut copy);
         let arguments = format!("{inode}, {offset}, {} bytes", buffer.len());
-        self.same("read", &arguments, compiled, expected);
+        self.same("read", format_args!("{arguments}"), compiled, expected);
         assert!(lent.holds(&copy), "read({arguments}) left other bytes");
     }
 
@@ -97,8 +131,32 @@ impl<'a> Compared<'a> {
         let compiled = calls::kth_name(self.volume.slice(), k, lent.slice_mut());
         let expected = reference::kth_name(self.bytes, k, &mut copy);
         let arguments = format!("{k}, {} bytes", buffer.len());
-        self.same("kth_name", &arguments, compiled, expected);
+        self.same("kth_name", format_args!("{arguments}"), compiled, expected);
         assert!(lent.holds(&copy), "kth_name({arguments}) left other bytes");
+    }
+
+    /// A changing call, with a list of so many words; answers the filled part.
+    pub fn change(&mut self, call: &Call, words: u64) -> Vec<u64> {
+        let arguments = call.clone();
+        let before: Vec<u64> = (0..words).map(|index| index ^ 0x5A5A << 40).collect();
+        let mut lent = Lent::new(&before, 0);
+        let mut copy = before;
+        let compiled = fill(call, self.volume.slice(), lent.slice_mut());
+        let expected = call.fill(self.bytes, &mut copy);
+        let name = name_of(call);
+        self.same(
+            name,
+            format_args!("{call:?}, {words} words"),
+            compiled,
+            expected,
+        );
+        assert!(lent.holds(&copy), "{call:?} left other words");
+        assert_eq!(*call, arguments, "the call changed its arguments");
+        if expected == Ok(0) {
+            self.counts.count_nothing(name);
+        }
+        copy.truncate(expected.unwrap_or(0) as usize);
+        copy
     }
 
     /// Format, on a copy of the volume.
@@ -108,7 +166,7 @@ impl<'a> Compared<'a> {
         let compiled = calls::format(lent.slice_mut(), pages, inodes).map(|()| 0);
         let expected = reference::format(&mut copy, pages, inodes).map(|()| 0);
         let arguments = format!("{pages}, {inodes}");
-        self.same("format", &arguments, compiled, expected);
+        self.same("format", format_args!("{arguments}"), compiled, expected);
         assert!(lent.holds(&copy), "format({arguments}) left other bytes");
     }
 
@@ -120,16 +178,20 @@ impl<'a> Compared<'a> {
         let compiled = calls::carry_out(lent.slice_mut(), words.slice(), count).map(|()| 0);
         let expected = reference::carry_out(&mut copy, list, count).map(|()| 0);
         let arguments = format!("{} words, {count}", list.len());
-        self.same("carry_out", &arguments, compiled, expected);
+        self.same("carry_out", format_args!("{arguments}"), compiled, expected);
         assert!(words.holds(list), "carry_out({arguments}) changed the list");
         assert!(lent.holds(&copy), "carry_out({arguments}) left other bytes");
         copy
     }
 }
 
-/// Makes every call on a volume, some of them about what stands there and some with any arguments.
+/// Makes every call on a volume, the changing calls on one volume in three: some about what stands there and some
+/// with any arguments.
 pub fn compare_all(random: &mut Random, bytes: &[u8], counts: &mut Counts) {
     compare_readings(random, bytes, counts);
+    if random.once_in(3) {
+        compare_changes(random, bytes, counts);
+    }
     let mut compared = Compared::new(bytes, 0, counts);
     let pages = bytes.len() as u64 / 512;
     compared.format(pages, 8 * random.between(1, 32));
@@ -141,6 +203,32 @@ pub fn compare_all(random: &mut Random, bytes: &[u8], counts: &mut Counts) {
         _ => list.len() as u64,
     };
     compared.carry_out(&list, count);
+}
+
+/// Makes every changing call on a volume: some with any arguments, and of an accepted one some about what
+/// stands there.
+pub fn compare_changes(random: &mut Random, bytes: &[u8], counts: &mut Counts) {
+    let mut compared = Compared::new(bytes, random.below(8) as usize, counts);
+    for call in any_calls(random) {
+        compared.change(&call, any_room(random));
+    }
+    if let Ok(judged) = judge(bytes) {
+        let (inodes, map) = (judged.sizes.inodes(), map(&judged));
+        for _ in 0..6 {
+            let call = any_call(random, inodes, &map);
+            compared.change(&call, any_room(random));
+        }
+    }
+}
+
+/// How many words a lent list has: mostly enough.
+fn any_room(random: &mut Random) -> u64 {
+    match random.below(24) {
+        0 => 4_095,
+        1 => random.below(4_096),
+        2..=4 => random.between(4_097, 4_200),
+        _ => 4_096,
+    }
 }
 
 /// Makes every reading call on a volume.

@@ -1,11 +1,13 @@
 //! Accepted volumes damaged in single bits and single words.
 
-use crate::compare::{compare_all, compare_readings, Compared, Counts, READINGS};
+use crate::compare::{
+    compare_all, compare_changes, compare_readings, Compared, Counts, CHANGES, READINGS,
+};
 use reference::layout::set_word;
 use reference::{cut, Refusal};
 use samples::{
-    change_live_word, create, filled, flip_live_bit, link, live_words, run, sample, set_size,
-    used_volume, write, Random, NUMBERS,
+    change_live_word, clean, create, filled, flip_live_bit, link, live_words, run, sample,
+    set_size, used_volume, write, Random, NUMBERS,
 };
 
 /// The sample after some calls: more names than files, logs that go on, a file with an end in a mapped
@@ -42,6 +44,8 @@ fn compare_a_few(bytes: &[u8], counts: &mut Counts) {
     compared.size(2);
     compared.read(1, 0, &[0x55; 3_100]);
     compared.kth_name(1, &[0x55; 33]);
+    compared.change(&write(1, 690, &[8; 40]), 4_096);
+    compared.change(&clean(0), 4_096);
 }
 
 /// Every bit of every live word flipped, one at a time.
@@ -99,9 +103,13 @@ fn change_volumes(seed: u64, change: fn(&mut Random, &mut [u8], &[Vec<u64>])) {
                 change(&mut random, &mut changed, &live);
             }
             compare_readings(&mut random, &changed, &mut counts);
+            if random.once_in(4) {
+                compare_changes(&mut random, &changed, &mut counts);
+            }
         }
     }
     counts.reached(&READINGS, &[0, 2, 3, 4], 400);
+    counts.reached(&CHANGES, &[0, 1, 2, 3], 100);
 }
 
 #[test]

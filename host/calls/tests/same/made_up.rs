@@ -1,6 +1,6 @@
 //! Made-up volumes: structures chosen at random, as they are and with one live word changed.
 
-use crate::compare::{compare_all, compare_readings, Counts, READINGS};
+use crate::compare::{compare_all, compare_readings, Counts, CHANGES, READINGS};
 use samples::{change_live_word, live_words, made_up, Random};
 
 #[test]
@@ -15,6 +15,7 @@ fn made_up_volumes() {
     counts.reached(&["find"], &[5, 6], 2_000);
     counts.reached(&["kth_name"], &[1, 6], 2_000);
     counts.reached(&["format"], &[0, 2], 2_000);
+    counts.reached(&CHANGES, &[0, 1, 3], 200);
     counts.reached(&["carry_out"], &[0, 13], 2_000);
 }
 

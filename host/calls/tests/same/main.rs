@@ -3,7 +3,10 @@
 //! Each module has one kind of volumes; [`compare`] makes every call on a volume twice, compiled and by
 //! the model. What is random comes from the seeds in the tests, so that a failure comes back.
 
+mod changes;
 mod compare;
+#[path = "../compiled/mod.rs"]
+mod compiled;
 mod damaged;
 mod histories;
 mod large;

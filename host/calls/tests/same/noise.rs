@@ -1,6 +1,6 @@
 //! Noise: random bytes, wrong lengths, sizes at their limits.
 
-use crate::compare::{compare_all, Compared, Counts, READINGS};
+use crate::compare::{compare_all, Compared, Counts, CHANGES, READINGS};
 use reference::layout::set_word;
 use samples::{formatted, headed_noise, sample, Random, NUMBERS};
 
@@ -14,6 +14,7 @@ fn random_bytes_of_any_length() {
         compare_all(&mut random, &volume, &mut counts);
     }
     counts.reached(&READINGS, &[2], 88);
+    counts.reached(&CHANGES, &[2], 15);
     counts.reached(&["carry_out"], &[2], 88);
 }
 
@@ -27,6 +28,7 @@ fn random_bytes_with_sizes() {
         }
     }
     counts.reached(&READINGS, &[3], 3_500);
+    counts.reached(&CHANGES, &[3], 1_000);
 }
 
 /// An accepted volume cut short and made longer.
@@ -38,7 +40,8 @@ fn wrong_lengths() {
     let mut longer = volume.clone();
     longer.extend(random.bytes(1_024));
     let lengths = (0..40).chain(volume.len() - 40..volume.len() + 40);
-    for length in lengths.chain([512, 1_024, 16 * 512, 19 * 512, 21 * 512, 22 * 512]) {
+    let others = [512, 1_024, 16 * 512, 19 * 512, 21 * 512, 22 * 512];
+    for length in lengths.chain(others).chain([volume.len(); 9]) {
         compare_all(&mut random, &longer[..length], &mut counts);
     }
     counts.reached(&READINGS, &[2], 120);
