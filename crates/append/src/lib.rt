@@ -50,7 +50,7 @@ pub fn append_one(
 
 // Fills the list of an append that its tail commits together with the valid word of inode i, which becomes x. Answers the count of words
 // filled.
-// Example: of one entry on a page that has room for it, and no data, the list has 42 words.
+// Example: of one entry on a page that has room for it, and no data, the list has 40 words.
 pub fn append_two(
     v: &[u8],
     list: &mut [u64],
@@ -99,7 +99,7 @@ pub fn append_two(
 
 // Fills the list of an append that its tail commits together with the valid word of a new inode i, which becomes 1; head and tail of the
 // inode become 0 in the first group. Answers the count of words filled.
-// Example: of one entry on a page that has room for it, and no data, the list has 46 words.
+// Example: of one entry on a page that has room for it, and no data, the list has 44 words.
 pub fn append_new(
     v: &[u8],
     list: &mut [u64],
