@@ -5,10 +5,10 @@
  */
 #define _DEFAULT_SOURCE /* MAP_ANONYMOUS */
 
+#include "stack.h"
 #include "volume.h"
 
 #include <inttypes.h>
-#include <pthread.h>
 #include <stdio.h>
 #include <stdlib.h>
 #include <string.h>
@@ -21,7 +21,6 @@ enum {
     GUARD = 4096,        /* bytes that nobody may touch, on each side of lent memory */
     ROOM = 3 * GUARD,    /* lent memory */
     MOST_LEN = 9000,     /* the longest slice that is lent */
-    STACK_LEN = 256 * 1024,
     STACK_LIMIT = 72 * 1024
 };
 
@@ -372,32 +371,12 @@ static void *no_calls(void *volume)
     return volume;
 }
 
-/* Runs a thread on a marked stack; answers how many bytes of it were used. */
-static size_t stack_used(void *(*body)(void *), uint8_t *volume)
-{
-    static union {
-        uint8_t bytes[STACK_LEN];
-        long double aligned;
-    } stack;
-    pthread_attr_t attributes;
-    pthread_t thread;
-    void *result = NULL;
-    size_t untouched = 0;
-    memset(stack.bytes, 0xA5, STACK_LEN);
-    check(pthread_attr_init(&attributes) == 0 && pthread_attr_setstack(&attributes, stack.bytes, STACK_LEN) == 0 &&
-              pthread_create(&thread, &attributes, body, volume) == 0 && pthread_join(thread, &result) == 0 &&
-              result == volume,
-          "calls in a thread", 0, 0);
-    pthread_attr_destroy(&attributes);
-    while (untouched < STACK_LEN && stack.bytes[untouched] == 0xA5)
-        untouched++;
-    return STACK_LEN - untouched;
-}
-
 /* The calls need no more stack than include/volume.h says. */
 static void stack_need(uint8_t *volume)
 {
-    size_t used = stack_used(three_calls, volume) - stack_used(no_calls, volume);
+    size_t alone = stack_used(no_calls, volume);
+    size_t used = stack_used(three_calls, volume) - alone;
+    check(alone != 0, "calls in a thread", 0, 0);
     check(used < STACK_LIMIT, "bytes of stack", (int64_t)used, STACK_LIMIT);
     printf("stack: %lu bytes\n", (unsigned long)used);
 }

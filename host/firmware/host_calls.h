@@ -1,0 +1,26 @@
+/*
+ * The calls of libhost_calls.a, for the tests in this folder. crates/host_calls/src/lib.rt says what each answers; find, size and read are
+ * those of include/volume.h.
+ */
+#ifndef HOST_CALLS_H
+#define HOST_CALLS_H
+
+#include "volume.h"
+
+int64_t volume_format(uint8_t *volume, size_t volume_len, uint64_t pages, uint64_t inodes);
+int64_t volume_carry_out(uint8_t *volume, size_t volume_len, const uint64_t *list, size_t list_len, uint64_t count);
+int64_t volume_kth_name(const uint8_t *volume, size_t volume_len, uint64_t k, uint8_t *buffer, size_t buffer_len);
+int64_t volume_free_count(const uint8_t *volume, size_t volume_len);
+int64_t volume_create(const uint8_t *volume, size_t volume_len, const uint8_t *name, size_t name_len, uint64_t *list, size_t list_len);
+int64_t volume_link(const uint8_t *volume, size_t volume_len, const uint8_t *old_name, size_t old_len, const uint8_t *new_name,
+                    size_t new_len, uint64_t *list, size_t list_len);
+int64_t volume_unlink(const uint8_t *volume, size_t volume_len, const uint8_t *name, size_t name_len, uint64_t *list, size_t list_len);
+int64_t volume_rename(const uint8_t *volume, size_t volume_len, const uint8_t *old_name, size_t old_len, const uint8_t *new_name,
+                      size_t new_len, uint64_t *list, size_t list_len);
+int64_t volume_write(const uint8_t *volume, size_t volume_len, uint64_t inode, uint64_t offset, const uint8_t *bytes, size_t bytes_len,
+                     uint64_t *list, size_t list_len);
+int64_t volume_set_size(const uint8_t *volume, size_t volume_len, uint64_t inode, uint64_t size, uint64_t *list, size_t list_len);
+int64_t volume_clean(const uint8_t *volume, size_t volume_len, uint64_t inode, uint64_t *list, size_t list_len);
+int64_t volume_recover(const uint8_t *volume, size_t volume_len, uint64_t *list, size_t list_len);
+
+#endif

@@ -1,0 +1,101 @@
+//! What ends a command before it is done: the exit status, the line on standard error and the advice.
+
+use crate::text::complain;
+use refusal::Refusal;
+
+/// What a command answers.
+pub type Outcome = Result<(), Failure>;
+
+/// Why a command is not done.
+#[derive(Debug)]
+pub enum Failure {
+    /// The volume refused. Exit status 1.
+    Refused {
+        /// What was asked for: a name, or the volume.
+        what: String,
+        /// The refusal.
+        refusal: Refusal,
+        /// What to do about it.
+        advice: String,
+    },
+    /// The command line is wrong, whatever the files hold. Exit status 2.
+    Use(String),
+    /// A file of the host is missing, in the way, locked or not fit, or reading or writing failed. Exit status 3.
+    Host(String),
+    /// A rehearsed power cut. Exit status 4.
+    Cut {
+        /// The group that was cut, from 1.
+        group: u64,
+        /// The volume's path, as shown.
+        volume: String,
+    },
+    /// Everything is said already; the exit status.
+    Said(u8),
+    /// Standard output is closed: nobody reads on. Exit status 0.
+    Quiet,
+}
+
+impl Failure {
+    /// The exit status of a command that ends so.
+    pub fn status(&self) -> u8 {
+        match self {
+            Failure::Refused { .. } => 1,
+            Failure::Use(_) => 2,
+            Failure::Host(_) => 3,
+            Failure::Cut { .. } => 4,
+            Failure::Said(status) => *status,
+            Failure::Quiet => 0,
+        }
+    }
+
+    /// Says on standard error what went wrong, in one line.
+    pub fn tell(&self) {
+        match self {
+            Failure::Refused {
+                what,
+                refusal,
+                advice,
+            } => complain(&format!("{what}: {}; {advice}", refused(*refusal))),
+            Failure::Use(what) => complain(&format!("{what}; see office --help")),
+            Failure::Host(what) => complain(what),
+            Failure::Cut { group, volume } => complain(&format!(
+                "power cut in group {group} (rehearsed); run 'office recover {volume}'"
+            )),
+            Failure::Said(_) | Failure::Quiet => {}
+        }
+    }
+}
+
+/// A refusal as the tool says it: "refused 12 (no space)".
+pub fn refused(refusal: Refusal) -> String {
+    format!("refused {} ({refusal})", refusal.number())
+}
+
+/// What to do about a refusal; `volume` is the volume's path as shown.
+///
+/// ```
+/// use office::failure::advice;
+/// use refusal::Refusal;
+///
+/// assert_eq!(advice(Refusal::JournalOpen, "day.vol"), "run 'office recover day.vol'");
+/// ```
+pub fn advice(refusal: Refusal, volume: &str) -> String {
+    match refusal {
+        Refusal::NoVolume | Refusal::Damaged => format!("'office check {volume}' says why"),
+        Refusal::JournalOpen => format!("run 'office recover {volume}'"),
+        Refusal::BadName => "a name has 1 to 32 bytes, none of them 0 or '/'".into(),
+        Refusal::NotThere => format!("'office ls {volume}' lists the names"),
+        Refusal::Taken => format!("take another name, or 'office rm {volume} NAME' first"),
+        Refusal::PastTheEnd => "a file has at most 65,536 bytes".into(),
+        Refusal::NoInode => {
+            format!("every inode is in use; remove files with 'office rm {volume} NAME'")
+        }
+        Refusal::DirectoryFull => {
+            format!("224 names stand already; remove some with 'office rm {volume} NAME'")
+        }
+        Refusal::NoSpace => format!("remove files, or run 'office clean {volume}'"),
+        Refusal::ShortMemory | Refusal::LongWrite | Refusal::BadList => {
+            "the tool asked wrongly; nothing was stored".into()
+        }
+    }
+}

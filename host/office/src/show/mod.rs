@@ -1,0 +1,134 @@
+//! What a volume looks like: why it is refused, a map of its pages, the entries of a log.
+//!
+//! Every function here takes the bytes of a volume, of any length and content, and answers a text. Nothing
+//! is stored. Whether a volume is accepted is always asked of the compiled calls; only the words come from
+//! here. Everything is read with the journal's open entries put back, and a text that does so says it.
+//!
+//! ```
+//! use calls::{carry_out, create, format, Refusal};
+//! use office::show::{log_text, map_text, reason};
+//!
+//! let mut volume = vec![0; 16 * 512];
+//! assert_eq!(
+//!     reason(&volume),
+//!     Some("word 0 is 0, not a page count from 16 to 4096".to_string())
+//! );
+//! format(&mut volume, 16, 8)?;
+//! assert_eq!(reason(&volume), None);
+//!
+//! let mut list = vec![0; 4_096];
+//! let count = create(&volume, b"A1", &mut list)?;
+//! carry_out(&mut volume, &list, count)?;
+//! assert!(map_text(&volume, 80, false)?.contains("16 pages: 2 fixed, 1 log, 0 data, 13 free"));
+//! assert!(log_text(&volume, 0)?.contains("page 2, entry 1: add \"A1\" for inode 1"));
+//! # Ok::<(), Refusal>(())
+//! ```
+
+mod colour;
+mod log;
+mod map;
+mod pages;
+mod reason;
+mod svg;
+mod table;
+mod words;
+
+use reference::Volume;
+use refusal::Refusal;
+
+/// Why a volume is refused, in words; none if it is accepted and its journal is closed.
+///
+/// The verdict is that of `calls::free_count`. The words say the first thing that is wrong, in the order
+/// of document 01's section "An accepted volume", with its place; for an open journal, the open entries.
+///
+/// ```
+/// let mut volume = vec![0; 16 * 512];
+/// calls::format(&mut volume, 16, 8).unwrap();
+/// volume[64] = 16;
+/// assert_eq!(
+///     office::show::reason(&volume),
+///     Some("the journal's dequeue position is 16, not below 16".to_string())
+/// );
+/// ```
+pub fn reason(volume: &[u8]) -> Option<String> {
+    let found = match calls::free_count(volume).err()? {
+        Refusal::NoVolume => reason::no_volume(volume),
+        Refusal::Damaged => reason::damage(volume),
+        Refusal::JournalOpen => reason::open_journal(volume),
+        _ => None,
+    };
+    Some(found.unwrap_or_else(|| "for a reason that this tool does not know".to_string()))
+}
+
+/// Draws the pages of a volume as text: a grid with one cell per page, a table of the valid inodes with
+/// their pages, and the totals.
+///
+/// The lines are at most `width` characters wide where names and page numbers allow; a row of the grid has
+/// 64 pages, or half as many until it fits, but at least 8. With `colour`, the cells of each inode and its
+/// number in the table have a background colour of their own (24-bit ANSI sequences). The refusals are 2
+/// ([`Refusal::NoVolume`]) and 3 ([`Refusal::Damaged`]); an open journal is put back, and the text says so.
+///
+/// ```
+/// let mut volume = vec![0; 16 * 512];
+/// calls::format(&mut volume, 16, 8).unwrap();
+/// assert_eq!(
+///     office::show::map_text(&volume, 80, false).unwrap(),
+///     "\
+/// pages: # fixed, L log, D data, . free
+///  0  ##...... ........
+///
+/// inode  names          size  log pages  data pages
+///     0  the directory     -  -          -
+///
+/// 16 pages: 2 fixed, 0 log, 0 data, 14 free
+/// "
+/// );
+/// ```
+pub fn map_text(volume: &[u8], width: usize, colour: bool) -> Result<String, Refusal> {
+    Ok(map::text(&accepted(volume)?, width, colour))
+}
+
+/// Draws the pages of a volume as a standalone SVG picture: a grid with one cell per page, coloured by
+/// inode, and a legend with the names.
+///
+/// Each cell has a title that says its page and its use, which a browser shows under the pointer. The
+/// refusals are 2 ([`Refusal::NoVolume`]) and 3 ([`Refusal::Damaged`]); an open journal is put back, and the
+/// picture says so.
+///
+/// ```
+/// let mut volume = vec![0; 16 * 512];
+/// calls::format(&mut volume, 16, 8).unwrap();
+/// let picture = office::show::map_svg(&volume).unwrap();
+/// assert!(picture.contains("<title>page 0: fixed</title>"));
+/// assert!(picture.contains("<title>page 2: free</title>"));
+/// ```
+pub fn map_svg(volume: &[u8]) -> Result<String, Refusal> {
+    Ok(svg::picture(&accepted(volume)?))
+}
+
+/// The log of a valid inode in words: a line about the inode, then one line per entry.
+///
+/// Inode 0 is the directory. The refusals are 2 ([`Refusal::NoVolume`]), 3 ([`Refusal::Damaged`]) and 6
+/// ([`Refusal::NotThere`], an inode that is invalid or out of range); an open journal is put back, and the
+/// text says so.
+///
+/// ```
+/// use office::show::log_text;
+/// use refusal::Refusal;
+///
+/// let mut volume = vec![0; 16 * 512];
+/// calls::format(&mut volume, 16, 8).unwrap();
+/// assert_eq!(log_text(&volume, 0), Ok("inode 0, directory, 0 names: empty log\n".to_string()));
+/// assert_eq!(log_text(&volume, 1), Err(Refusal::NotThere));
+/// ```
+pub fn log_text(volume: &[u8], inode: u64) -> Result<String, Refusal> {
+    log::text(&accepted(volume)?, inode).ok_or(Refusal::NotThere)
+}
+
+/// Reads a volume that the compiled calls accept, its journal closed or open. The refusals are 2 and 3.
+fn accepted(volume: &[u8]) -> Result<Volume<'_>, Refusal> {
+    match calls::free_count(volume) {
+        Ok(_) | Err(Refusal::JournalOpen) => reference::judge(volume),
+        Err(refusal) => Err(refusal),
+    }
+}

@@ -1,0 +1,83 @@
+//! What the pages of an accepted volume serve for, by page and by inode.
+
+use reference::layout::DIRECTORY;
+use reference::{Use, Volume};
+
+/// A valid inode and its pages.
+pub(super) struct Inode<'v> {
+    /// The inode's number.
+    pub(super) number: u64,
+    /// The names that lead to it, in list order.
+    pub(super) names: Vec<&'v [u8]>,
+    /// The file's size; none for the directory.
+    pub(super) size: Option<u64>,
+    /// The pages of its log, ascending.
+    pub(super) log: Vec<u64>,
+    /// Its mapped data pages, ascending.
+    pub(super) data: Vec<u64>,
+}
+
+impl Inode<'_> {
+    /// Whether this is the directory.
+    pub(super) fn is_directory(&self) -> bool {
+        self.number == DIRECTORY
+    }
+}
+
+/// The valid inodes of a volume, ascending.
+pub(super) fn inodes<'v>(volume: &Volume<'v>) -> Vec<Inode<'v>> {
+    let numbers = volume.logs.keys();
+    numbers.map(|&number| inode(volume, number)).collect()
+}
+
+fn inode<'v>(volume: &Volume<'v>, number: u64) -> Inode<'v> {
+    let pages_that = |serves: &dyn Fn(&Use) -> bool| -> Vec<u64> {
+        let pages = (0..).zip(&volume.uses);
+        let serving = pages.filter(|(_, page)| serves(page));
+        serving.map(|(page, _)| page).collect()
+    };
+    Inode {
+        number,
+        names: names_of(volume, number),
+        size: volume.files.get(&number).map(|file| file.size),
+        log: pages_that(&|page| matches!(page, Use::Log { inode } if *inode == number)),
+        data: pages_that(&|page| matches!(page, Use::Data { inode, .. } if *inode == number)),
+    }
+}
+
+/// The names that lead to an inode, in list order.
+pub(super) fn names_of<'v>(volume: &Volume<'v>, inode: u64) -> Vec<&'v [u8]> {
+    let leading = volume.names.iter().filter(|pair| pair.1 == inode);
+    leading.map(|pair| pair.0).collect()
+}
+
+/// The inode that a page serves; none for fixed and free pages.
+pub(super) fn inode_of(page: Use) -> Option<u64> {
+    match page {
+        Use::Fixed | Use::Free => None,
+        Use::Log { inode } | Use::Data { inode, .. } => Some(inode),
+    }
+}
+
+/// What a page serves for, in words: `data of inode 4 (file page 0)`.
+pub(super) fn use_text(page: Use) -> String {
+    match page {
+        Use::Fixed => "fixed".to_string(),
+        Use::Free => "free".to_string(),
+        Use::Log { inode } => format!("log of inode {inode}"),
+        Use::Data { inode, file_page } => format!("data of inode {inode} (file page {file_page})"),
+    }
+}
+
+/// The totals: `256 pages: 9 fixed, 3 log, 12 data, 232 free`.
+pub(super) fn totals(volume: &Volume<'_>) -> String {
+    let count = |serves: fn(&&Use) -> bool| volume.uses.iter().filter(serves).count();
+    format!(
+        "{} pages: {} fixed, {} log, {} data, {} free",
+        volume.uses.len(),
+        count(|page| matches!(page, Use::Fixed)),
+        count(|page| matches!(page, Use::Log { .. })),
+        count(|page| matches!(page, Use::Data { .. })),
+        volume.free_pages(),
+    )
+}

@@ -1,0 +1,75 @@
+//! The legend of the picture: what the looks of cells mean, and the inodes with their colours and names.
+
+use super::drawing::{Drawing, LETTER, LINE, MARGIN};
+use crate::show::pages::Inode;
+use crate::show::words::quoted_names;
+
+/// The side of a swatch, and the distance from its left edge to the text behind it.
+const SWATCH: usize = 14;
+const BEHIND_SWATCH: usize = 22;
+/// The inodes stand in so many columns.
+const COLUMNS: usize = 2;
+
+/// What the four looks of a cell mean, in one line.
+pub(super) fn looks(drawing: &mut Drawing, top: usize) -> usize {
+    let looks = [
+        ("fixed", "fixed"),
+        ("free", "free"),
+        ("log0", "log, hatched in its inode's colour"),
+        ("data0", "data in its inode's colour"),
+    ];
+    let mut x = MARGIN;
+    for (look, meaning) in looks {
+        swatch(drawing, look, (x, top), meaning);
+        x += BEHIND_SWATCH + meaning.len() * LETTER + SWATCH;
+    }
+    top + LINE + 10
+}
+
+/// The inodes in columns that share a width: colour, number, names, size, counts of pages.
+pub(super) fn inodes(
+    drawing: &mut Drawing,
+    inodes: &[Inode<'_>],
+    width: usize,
+    top: usize,
+) -> usize {
+    let width = width / COLUMNS;
+    let letters = (width - BEHIND_SWATCH) / LETTER - 2;
+    let rows = inodes.len().div_ceil(COLUMNS);
+    for (number, inode) in inodes.iter().enumerate() {
+        let place = (MARGIN + number / rows * width, top + number % rows * LINE);
+        let look = format!("data{}", inode.number);
+        drawing.group("inode", &line(inode, usize::MAX), |drawing| {
+            swatch(drawing, &look, place, &line(inode, letters));
+        });
+    }
+    top + rows * LINE
+}
+
+/// A small square of a look, and what it stands for.
+fn swatch(drawing: &mut Drawing, look: &str, (x, y): (usize, usize), meaning: &str) {
+    drawing.square(look, (x, y), SWATCH);
+    drawing.text("line", (x + BEHIND_SWATCH, y), meaning);
+}
+
+/// An inode's line; the names are cut where it would have more than so many letters.
+fn line(inode: &Inode<'_>, letters: usize) -> String {
+    let (number, log, data) = (inode.number, inode.log.len(), inode.data.len());
+    let Some(size) = inode.size else {
+        return format!("{number}: the directory, {log} log");
+    };
+    let rest = format!(", size {size}, {log} log, {data} data");
+    let left = letters.saturating_sub(number.to_string().len() + 2 + rest.len());
+    let names = shortened(&quoted_names(&inode.names), left);
+    format!("{number}: {names}{rest}")
+}
+
+/// A text cut to so many letters, the last then a mark that it goes on.
+fn shortened(text: &str, letters: usize) -> String {
+    if text.chars().count() <= letters {
+        return text.to_string();
+    }
+    let mut short: String = text.chars().take(letters.saturating_sub(1)).collect();
+    short.push('\u{2026}');
+    short
+}

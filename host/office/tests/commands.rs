@@ -1,0 +1,434 @@
+//! Each command doing its work: what it says, whole, and the volume afterwards, held against the reference.
+
+mod tool;
+
+use office::commands::PART;
+use reference::layout::{tail_word, word, DIRECTORY};
+use reference::listing;
+use samples::{create, done, formatted, map_of, set_size, text, unlink, write};
+use std::ffi::OsStr;
+use std::fs;
+use std::os::unix::ffi::OsStrExt;
+use std::process::Stdio;
+use tool::{files, Folder};
+
+/// A folder with a volume of 64 pages and 16 inodes that holds "a" (700 bytes) and "b" (1 byte).
+fn with_files(test: &str) -> Folder {
+    let folder = Folder::with_volume(test, 64, 16);
+    folder.write("a", &text(700));
+    folder.write("b", b"!");
+    folder.done(&["put", "v", "a", "b"]);
+    folder
+}
+
+/// A volume with "a" and an open journal: of the create of "b" the first two groups have landed.
+fn open_journal() -> Vec<u8> {
+    let mut volume = formatted(16, 8);
+    done(&mut volume, &create(b"a"));
+    let list = samples::filled(&volume, &create(b"b")).expect("done");
+    reference::cut(&mut volume, &list, 1, |_| true);
+    volume
+}
+
+#[test]
+fn format() {
+    let folder = Folder::new("format");
+    folder.says(&["format", "v"], "256 pages, 64 inodes; 247 pages free\n");
+    assert_eq!(folder.read("v").len(), 256 * 512);
+    assert_eq!(folder.map(), files(&[]));
+    let sizes = ["format", "--pages", "16", "w", "--inodes=8"];
+    folder.says(&sizes, "16 pages, 8 inodes; 14 pages free\n");
+    assert_eq!(listing(&folder.read("w")), b"files 0 free 14\n");
+    assert_eq!(folder.names("."), ["v", "w"], "nothing else is left");
+}
+
+#[test]
+fn format_replaces_only_by_force() {
+    let folder = Folder::new("format-force");
+    folder.write("empty", b"");
+    folder.done(&["format", "empty"]);
+    folder.write("old", b"old");
+    let line = "office: old: exists and is not empty; --force replaces it\n";
+    folder.fails(&["format", "old"], 3, line);
+    assert_eq!(folder.read("old"), b"old");
+    folder.done(&["format", "old", "--force"]);
+    assert_eq!(map_of(&folder.read("old")), files(&[]));
+}
+
+#[test]
+fn put_and_ls() {
+    let folder = Folder::with_volume("put", 64, 16);
+    folder.write("a", &text(9_000));
+    folder.write("b", b"");
+    folder.says(
+        &["put", "v", "a", "b"],
+        "2 files put, 9,000 bytes; 41 pages free\n",
+    );
+    let both = files(&[("a", 1, &text(9_000)), ("b", 2, b"")]);
+    assert_eq!(folder.map(), both);
+    folder.says(&["ls", "v"], "files 2 free 41\n1 9000 a\n2 0 b\n");
+
+    folder.write("a", b"new");
+    folder.says(&["put", "v", "a"], "1 file put, 3 bytes; 57 pages free\n");
+    assert_eq!(folder.map(), files(&[("b", 2, b""), ("a", 3, b"new")]));
+    assert_eq!(folder.done(&["ls", "v"]), listing(&folder.read("v")));
+}
+
+#[test]
+fn put_under_another_name() {
+    let folder = Folder::with_volume("put-as", 64, 16);
+    folder.write("a", b"one");
+    folder.done(&["put", "v", "a", "--as", "x"]);
+    let ran = folder.office_with_input(&["put", "v", "-", "--as=y"], b"two");
+    assert_eq!((ran.status, ran.err.as_str()), (0, ""));
+    folder.done(&["put", "--as", "-", "v", "a"]);
+    let all = files(&[("x", 1, b"one"), ("y", 2, b"two"), ("-", 3, b"one")]);
+    assert_eq!(folder.map(), all);
+}
+
+#[test]
+fn put_of_a_folder_and_files() {
+    let folder = Folder::with_volume("put-folder", 64, 16);
+    for name in ["day/b", "day/a", "day/Z", "c"] {
+        folder.write(name, name.as_bytes());
+    }
+    folder.done(&["put", "v", "c", "day"]);
+    let all = files(&[
+        ("c", 1, b"c"),
+        ("Z", 2, b"day/Z"),
+        ("a", 3, b"day/a"),
+        ("b", 4, b"day/b"),
+    ]);
+    assert_eq!(folder.map(), all);
+    fs::create_dir(folder.join("empty")).expect("a folder");
+    folder.says(
+        &["put", "v", "empty"],
+        "0 files put, 0 bytes; 51 pages free\n",
+    );
+}
+
+#[test]
+fn put_over_one_of_two_names() {
+    let folder = with_files("put-linked");
+    folder.done(&["ln", "v", "a", "gate"]);
+    folder.write("a", b"new");
+    folder.done(&["put", "v", "a"]);
+    let all = files(&[("b", 2, b"!"), ("gate", 1, &text(700)), ("a", 3, b"new")]);
+    assert_eq!(folder.map(), all);
+}
+
+#[test]
+fn put_removes_the_part_of_a_killed_put() {
+    let folder = with_files("put-part");
+    folder.write("c", &text(5_000));
+    let cut = folder.office(&["put", "v", "c", "--cut", "6"]);
+    assert_eq!(cut.status, 4);
+    let left = folder.map();
+    assert_eq!(left.inode_of(PART), Some(3));
+    assert_eq!(left.files[&3], text(4_096));
+    let line = "accepted: 3 names, 46 free pages, journal closed\n\
+                .office-part: left by a killed put; the next put or 'office recover v' removes it\n";
+    folder.says(&["check", "v"], line);
+    folder.done(&["put", "v", "b"]);
+    assert_eq!(folder.map(), files(&[("a", 1, &text(700)), ("b", 3, b"!")]));
+}
+
+#[test]
+fn names_of_any_bytes() {
+    let folder = Folder::with_volume("bytes", 64, 16);
+    let name = OsStr::from_bytes(b"\xFF\x01 \xC3");
+    folder.write(name, b"odd");
+    let arguments = ["put", "v"].map(OsStr::new);
+    folder.done(&[arguments[0], arguments[1], name]);
+    assert_eq!(
+        folder.done(&["ls", "v"]),
+        b"files 1 free 58\n1 3 \xFF\x01 \xC3\n"
+    );
+    assert_eq!(
+        folder.done(&[OsStr::new("cat"), arguments[1], name]),
+        b"odd"
+    );
+    folder.done(&["get", "v", "--all", "all"]);
+    assert_eq!(
+        fs::read(folder.join("all").join(name)).expect("a file"),
+        b"odd"
+    );
+    let twice = [OsStr::new("ln"), arguments[1], name, name];
+    let line = "office: \\xFF\\x01 \\xC3 to \\xFF\\x01 \\xC3: refused 7 (taken); \
+                take another name, or 'office rm v NAME' first\n";
+    folder.fails(&twice, 1, line);
+    folder.done(&[OsStr::new("rm"), arguments[1], name]);
+    assert_eq!(folder.map(), files(&[]));
+}
+
+#[test]
+fn names_like_options() {
+    let folder = with_files("dashes");
+    folder.done(&["mv", "v", "--", "a", "--cut"]);
+    folder.done(&["ln", "--", "v", "--cut", "-x"]);
+    let all = files(&[
+        ("b", 2, b"!"),
+        ("--cut", 1, &text(700)),
+        ("-x", 1, &text(700)),
+    ]);
+    assert_eq!(folder.map(), all);
+    folder.done(&["rm", "v", "--", "-x", "--cut"]);
+    assert_eq!(folder.map(), files(&[("b", 2, b"!")]));
+}
+
+#[test]
+fn get() {
+    let folder = with_files("get");
+    for name in ["a", "b"] {
+        fs::remove_file(folder.join(name)).expect("it goes");
+    }
+    folder.says(&["get", "v", "a"], "1 file copied, 700 bytes\n");
+    assert_eq!(folder.read("a"), text(700));
+    folder.says(&["get", "v", "b", "c"], "1 file copied, 1 byte\n");
+    assert_eq!(folder.read("c"), b"!");
+    fs::create_dir(folder.join("into")).expect("a folder");
+    folder.done(&["get", "v", "a", "into"]);
+    assert_eq!(folder.read("into/a"), text(700));
+    assert_eq!(folder.done(&["get", "v", "a", "-"]), text(700));
+    folder.fails(
+        &["get", "v", "b", "a"],
+        3,
+        "office: a: exists; --force replaces it\n",
+    );
+    assert_eq!(folder.read("a"), text(700));
+    folder.done(&["get", "v", "b", "a", "--force"]);
+    assert_eq!(folder.read("a"), b"!");
+    assert_eq!(folder.names("."), ["a", "c", "into", "v"]);
+}
+
+#[test]
+fn get_all() {
+    let folder = with_files("get-all");
+    folder.says(
+        &["get", "v", "--all", "to/here"],
+        "2 files copied, 701 bytes\n",
+    );
+    assert_eq!(folder.names("to/here"), ["a", "b"]);
+    assert_eq!(folder.read("to/here/a"), text(700));
+    folder.write("to/here/a", b"mine");
+    fs::remove_file(folder.join("to/here/b")).expect("it goes");
+    let line = "office: to/here/a: exists; --force replaces it\noffice: get: nothing was copied\n";
+    folder.fails(&["get", "v", "--all", "to/here"], 3, line);
+    assert_eq!(folder.names("to/here"), ["a"]);
+    assert_eq!(folder.read("to/here/a"), b"mine");
+    folder.done(&["get", "v", "--all", "to/here", "--force"]);
+    assert_eq!(folder.read("to/here/a"), text(700));
+    assert_eq!(folder.read("to/here/b"), b"!");
+}
+
+#[test]
+fn get_all_leaves_the_part_of_a_killed_put() {
+    let folder = with_files("get-part");
+    assert_eq!(folder.office(&["put", "v", "a", "--cut", "6"]).status, 4);
+    let got = folder.office(&["get", "v", "--all", "all"]);
+    let line = "office: .office-part: left by a killed put, not copied\n";
+    assert_eq!((got.status, got.err.as_str()), (0, line));
+    assert_eq!(folder.names("all"), ["a", "b"]);
+}
+
+#[test]
+fn cat() {
+    let folder = with_files("cat");
+    let both = [text(700), b"!".to_vec()].concat();
+    assert_eq!(folder.done(&["cat", "v", "a", "b"]), both);
+}
+
+#[test]
+fn a_closed_pipe_is_quiet() {
+    let folder = Folder::with_volume("pipe", 256, 8);
+    folder.write("a", &text(65_536));
+    folder.done(&["put", "v", "a"]);
+    let mut child = folder
+        .command(&["cat", "v", "a", "a", "a", "a"])
+        .stdout(Stdio::piped())
+        .spawn()
+        .expect("it starts");
+    drop(child.stdout.take());
+    let ended = child.wait_with_output().expect("it ends");
+    assert_eq!((ended.status.code(), ended.stderr), (Some(0), Vec::new()));
+}
+
+#[test]
+fn mv_and_ln() {
+    let folder = with_files("mv");
+    folder.says(&["mv", "v", "a", "c"], "");
+    assert_eq!(folder.map(), files(&[("b", 2, b"!"), ("c", 1, &text(700))]));
+    folder.says(&["ln", "v", "c", "d"], "");
+    let three = files(&[("b", 2, b"!"), ("c", 1, &text(700)), ("d", 1, &text(700))]);
+    assert_eq!(folder.map(), three);
+    folder.says(&["mv", "v", "b", "c"], "");
+    assert_eq!(folder.map(), files(&[("d", 1, &text(700)), ("c", 2, b"!")]));
+    folder.says(&["mv", "v", "c", "d"], "");
+    assert_eq!(folder.map(), files(&[("d", 2, b"!")]));
+}
+
+#[test]
+fn rm() {
+    let folder = with_files("rm");
+    folder.done(&["ln", "v", "a", "c"]);
+    folder.says(&["rm", "v", "a", "b"], "");
+    assert_eq!(folder.map(), files(&[("c", 1, &text(700))]));
+    let before = folder.read("v");
+    let line = "office: gone: refused 6 (not there); 'office ls v' lists the names\n";
+    folder.fails(&["rm", "v", "c", "gone"], 1, line);
+    assert!(folder.read("v") == before, "one refused, none removed");
+}
+
+#[test]
+fn truncate() {
+    let folder = with_files("truncate");
+    folder.says(&["truncate", "v", "a", "100"], "");
+    folder.says(&["truncate", "v", "b", "3"], "");
+    let both = files(&[("a", 1, &text(100)), ("b", 2, b"!\0\0")]);
+    assert_eq!(folder.map(), both);
+}
+
+#[test]
+fn clean() {
+    let folder = Folder::new("clean");
+    let mut volume = formatted(64, 16);
+    for name in [b"a", b"b"] {
+        done(&mut volume, &create(name));
+        done(&mut volume, &unlink(name));
+        done(&mut volume, &create(name));
+    }
+    for size in (0..20).chain([9]) {
+        done(&mut volume, &set_size(1, size));
+        done(&mut volume, &write(2, size, b"!"));
+    }
+    folder.write("v", &volume);
+    folder.says(&["clean", "v", "a"], "free pages: 53 before, 55 after\n");
+    folder.says(
+        &["clean", "v", "b", "a"],
+        "free pages: 55 before, 57 after\n",
+    );
+    folder.says(
+        &["clean", "v", "--directory"],
+        "free pages: 57 before, 57 after\n",
+    );
+    assert_eq!(folder.map(), map_of(&volume));
+    folder.write("v", &volume);
+    folder.says(&["clean", "v"], "free pages: 53 before, 57 after\n");
+    assert_eq!(folder.map(), map_of(&volume));
+    let tail = word(&folder.read("v"), tail_word(DIRECTORY));
+    assert_eq!(tail % 512, 2 * 64, "the directory's log has two entries");
+}
+
+#[test]
+fn clean_skips_where_there_is_no_room() {
+    let folder = Folder::new("clean-full");
+    let mut volume = formatted(16, 8);
+    done(&mut volume, &create(b"a"));
+    done(&mut volume, &write(1, 0, &text(4_096)));
+    done(&mut volume, &write(1, 4_096, &text(2_048)));
+    folder.write("v", &volume);
+    let ran = folder.office(&["clean", "v"]);
+    let lines = "office: inode 0: skipped, no room for its new log: refused 12 (no space)\n\
+                 office: inode 1: skipped, no room for its new log: refused 12 (no space)\n";
+    assert_eq!((ran.status, ran.err.as_str()), (1, lines));
+    assert_eq!(ran.out, b"free pages: 0 before, 0 after\n");
+    assert!(folder.read("v") == volume);
+}
+
+#[test]
+fn recover() {
+    let folder = Folder::new("recover");
+    folder.write("v", &open_journal());
+    folder.says(&["recover", "v"], "journal closed: 2 words put back\n");
+    assert_eq!(folder.map(), files(&[("a", 1, b"")]));
+    folder.says(&["recover", "v"], "nothing to do\n");
+    folder.write("b", b"text");
+    assert_eq!(folder.office(&["put", "v", "b", "--cut", "6"]).status, 4);
+    folder.says(
+        &["recover", "v"],
+        ".office-part removed: a killed put left it\n",
+    );
+    folder.write("c", b"");
+    assert_eq!(folder.office(&["put", "v", "c", "--cut", "5"]).status, 4);
+    assert_eq!(
+        folder
+            .office(&["clean", "v", "--directory", "--cut", "2"])
+            .status,
+        4
+    );
+    let both = "journal closed: 2 words put back\n.office-part removed: a killed put left it\n";
+    folder.says(&["recover", "v"], both);
+    assert_eq!(folder.map(), files(&[("a", 1, b"")]));
+}
+
+#[test]
+fn check() {
+    let folder = with_files("check");
+    folder.says(
+        &["check", "v"],
+        "accepted: 2 names, 55 free pages, journal closed\n",
+    );
+    let good = folder.read("v");
+    let says = |bytes: &[u8], line: &str| {
+        folder.write("v", bytes);
+        let ran = folder.office(&["check", "v"]);
+        let said = String::from_utf8(ran.out).expect("text");
+        assert_eq!((ran.status, said.as_str(), ran.err.as_str()), (1, line, ""));
+    };
+    let mut damaged = good.clone();
+    damaged[64] = 16;
+    let line = "refused 3 (damaged): the journal's dequeue position is 16, not below 16\n";
+    says(&damaged, line);
+    let line =
+        "refused 2 (no volume): the file has 1024 bytes, but word 0 says 64 pages, 32768 bytes\n";
+    says(&good[..1_024], line);
+    let line = "refused 2 (no volume): the file has 2100000 bytes, a volume at most 2097152\n";
+    says(&vec![0; 2_100_000], line);
+    let line = "refused 4 (journal open): 2 entries are open: word 66 (tail of inode 0) goes back to 1088, \
+                word 80 (valid word of inode 2) to 0; run 'office recover v'\n";
+    says(&open_journal(), line);
+}
+
+#[test]
+fn map_and_log() {
+    let folder = with_files("map");
+    let volume = folder.read("v");
+    let text = office::show::map_text(&volume, 80, false).expect("accepted");
+    folder.says(&["map", "v"], &text);
+    let narrow = folder.command(&["map", "v"]).env("COLUMNS", "30").output();
+    let text = office::show::map_text(&volume, 30, false).expect("accepted");
+    assert_eq!(narrow.expect("it runs").stdout, text.as_bytes());
+    let svg = office::show::map_svg(&volume).expect("accepted");
+    folder.says(&["map", "v", "--svg", "-"], &svg);
+    folder.says(&["map", "v", "--svg", "v.svg"], "");
+    assert_eq!(folder.read("v.svg"), svg.as_bytes());
+    let line = "office: v.svg: exists; --force replaces it\n";
+    folder.fails(&["map", "v", "--svg", "v.svg"], 3, line);
+    folder.done(&["map", "v", "--svg", "v.svg", "--force"]);
+    for (arguments, inode) in [
+        (["log", "v"].as_slice(), 0),
+        (&["log", "v", "b"], 2),
+        (&["log", "v", "--inode", "1"], 1),
+    ] {
+        let text = office::show::log_text(&volume, inode).expect("it stands");
+        folder.says(arguments, &text);
+    }
+}
+
+#[test]
+fn reading_commands_change_nothing() {
+    let folder = with_files("reading");
+    let volume = folder.read("v");
+    for command in [
+        ["ls", "v"].as_slice(),
+        &["cat", "v", "a"],
+        &["get", "v", "a", "c"],
+        &["get", "v", "--all", "all"],
+        &["check", "v"],
+        &["map", "v"],
+        &["log", "v"],
+    ] {
+        folder.done(command);
+        assert!(folder.read("v") == volume, "{command:?}");
+    }
+}

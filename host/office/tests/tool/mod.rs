@@ -1,0 +1,223 @@
+//! The built tool, run in a folder of the test's own; and the file maps that its commands pass through.
+#![allow(dead_code)]
+
+use office::commands::PART;
+use reference::layout::WRITE_LIMIT;
+use reference::{judge, Call, FileMap};
+use samples::{create, done, map_of, rename, run, unlink, write};
+use std::ffi::OsStr;
+use std::fs;
+use std::io::Write;
+use std::path::{Path, PathBuf};
+use std::process::{Child, Command, Output, Stdio};
+
+/// A folder that goes when the test ends.
+pub struct Folder {
+    pub path: PathBuf,
+}
+
+impl Folder {
+    /// An empty folder for the test of this name.
+    pub fn new(test: &str) -> Folder {
+        let name = format!("{test}-{}", std::process::id());
+        let path = Path::new(env!("CARGO_TARGET_TMPDIR")).join(name);
+        let _ = fs::remove_dir_all(&path);
+        fs::create_dir_all(&path).expect("a folder for the test");
+        Folder { path }
+    }
+
+    /// A folder with a formatted volume "v" of these sizes.
+    pub fn with_volume(test: &str, pages: u64, inodes: u64) -> Folder {
+        let folder = Folder::new(test);
+        folder.write("v", &samples::formatted(pages, inodes));
+        folder
+    }
+
+    /// The path of a file in the folder.
+    pub fn join(&self, name: impl AsRef<Path>) -> PathBuf {
+        self.path.join(name)
+    }
+
+    /// Writes a file.
+    pub fn write(&self, name: impl AsRef<Path>, bytes: &[u8]) {
+        let path = self.join(name);
+        fs::create_dir_all(path.parent().expect("a folder")).expect("a folder");
+        fs::write(path, bytes).expect("a file is written");
+    }
+
+    /// A file's bytes.
+    pub fn read(&self, name: impl AsRef<Path>) -> Vec<u8> {
+        fs::read(self.join(name)).expect("a file is read")
+    }
+
+    /// The names in the folder, sorted.
+    pub fn names(&self, name: impl AsRef<Path>) -> Vec<String> {
+        let entries = fs::read_dir(self.join(name)).expect("a folder is read");
+        let mut names: Vec<String> = entries
+            .map(|entry| {
+                let name = entry.expect("an entry").file_name();
+                name.to_string_lossy().into_owned()
+            })
+            .collect();
+        names.sort();
+        names
+    }
+
+    /// The file map of the volume "v", which must be accepted.
+    pub fn map(&self) -> FileMap {
+        map_of(&self.read("v"))
+    }
+
+    /// The tool with these arguments, not yet started, in this folder.
+    pub fn command(&self, arguments: &[impl AsRef<OsStr>]) -> Command {
+        let mut command = Command::new(env!("CARGO_BIN_EXE_office"));
+        command
+            .args(arguments)
+            .current_dir(&self.path)
+            .env_remove("COLUMNS")
+            .stdin(Stdio::null())
+            .stdout(Stdio::piped())
+            .stderr(Stdio::piped());
+        command
+    }
+
+    /// The tool with these arguments, started, saying nothing.
+    pub fn start(&self, arguments: &[impl AsRef<OsStr>]) -> Child {
+        let mut command = self.command(arguments);
+        command.stdout(Stdio::null()).stderr(Stdio::null());
+        command.spawn().expect("the tool starts")
+    }
+
+    /// Runs the tool to its end.
+    pub fn office(&self, arguments: &[impl AsRef<OsStr>]) -> Ran {
+        Ran::of(self.command(arguments).output().expect("the tool runs"))
+    }
+
+    /// Runs the tool with standard input.
+    pub fn office_with_input(&self, arguments: &[impl AsRef<OsStr>], input: &[u8]) -> Ran {
+        let mut command = self.command(arguments);
+        let mut child = command.stdin(Stdio::piped()).spawn().expect("it starts");
+        let mut stdin = child.stdin.take().expect("a pipe");
+        // The tool reads no more than it needs, and may close the pipe.
+        let _ = stdin.write_all(input);
+        drop(stdin);
+        Ran::of(child.wait_with_output().expect("the tool runs"))
+    }
+
+    /// Runs a command that must be done, with nothing on standard error; answers what it said.
+    pub fn done(&self, arguments: &[impl AsRef<OsStr>]) -> Vec<u8> {
+        let ran = self.office(arguments);
+        assert_eq!((ran.status, ran.err.as_str()), (0, ""));
+        ran.out
+    }
+
+    /// Runs a command that must be done and say this.
+    pub fn says(&self, arguments: &[impl AsRef<OsStr>], out: &str) {
+        assert_eq!(String::from_utf8_lossy(&self.done(arguments)), out);
+    }
+
+    /// Runs a command that must end with this status and this on standard error, and say nothing else.
+    pub fn fails(&self, arguments: &[impl AsRef<OsStr>], status: i32, err: &str) {
+        let ran = self.office(arguments);
+        assert_eq!((ran.status, ran.err.as_str()), (status, err));
+        assert_eq!(ran.out, b"");
+    }
+}
+
+impl Drop for Folder {
+    fn drop(&mut self) {
+        let _ = fs::remove_dir_all(&self.path);
+    }
+}
+
+/// How a run of the tool ended.
+#[derive(Debug)]
+pub struct Ran {
+    /// The exit status; -1 if a signal ended it.
+    pub status: i32,
+    pub out: Vec<u8>,
+    pub err: String,
+}
+
+impl Ran {
+    fn of(output: Output) -> Ran {
+        Ran {
+            status: output.status.code().unwrap_or(-1),
+            out: output.stdout,
+            err: String::from_utf8(output.stderr).expect("texts are UTF-8"),
+        }
+    }
+}
+
+/// A file map by hand: the names in list order, each with its inode and bytes.
+pub fn files(names: &[(&str, u64, &[u8])]) -> FileMap {
+    FileMap {
+        names: names
+            .iter()
+            .map(|(name, inode, _)| (name.as_bytes().to_vec(), *inode))
+            .collect(),
+        files: names
+            .iter()
+            .map(|(_, inode, bytes)| (*inode, bytes.to_vec()))
+            .collect(),
+    }
+}
+
+/// The maps that calls pass through by the reference, the one before them first.
+///
+/// A refused call leaves the map, as the next ones do.
+pub fn maps_of_calls(volume: &[u8], calls: &[Call]) -> Vec<FileMap> {
+    let mut volume = volume.to_vec();
+    let mut maps = vec![map_of(&volume)];
+    for call in calls {
+        if run(&mut volume, call).is_err() {
+            break;
+        }
+        maps.push(map_of(&volume));
+    }
+    maps
+}
+
+/// The calls of a put of files, by the reference: first a part that a killed put left is unlinked.
+///
+/// A file that is refused is not begun, nor are those after it.
+pub fn calls_of_put(volume: &[u8], files: &[(Vec<u8>, Vec<u8>)]) -> Vec<Call> {
+    let mut volume = volume.to_vec();
+    let mut calls = Vec::new();
+    if map_of(&volume).inode_of(PART).is_some() {
+        calls.push(unlink(PART));
+        done(&mut volume, &calls[0]);
+    }
+    for (name, bytes) in files {
+        let mut tried = volume.clone();
+        let more = calls_of_file(&tried, name, bytes);
+        if more.iter().any(|call| run(&mut tried, call).is_err()) {
+            break;
+        }
+        calls.extend(more);
+        volume = tried;
+    }
+    calls
+}
+
+/// The calls that put one file.
+fn calls_of_file(volume: &[u8], name: &[u8], bytes: &[u8]) -> Vec<Call> {
+    let judged = judge(volume).expect("accepted");
+    let inode = judged.lowest_invalid_inode().unwrap_or(0);
+    let mut calls = vec![create(PART)];
+    for (piece, offset) in bytes.chunks(WRITE_LIMIT).zip((0..).step_by(WRITE_LIMIT)) {
+        calls.push(write(inode, offset, piece));
+    }
+    calls.push(rename(PART, name));
+    calls
+}
+
+/// A map without the part that a killed put left.
+pub fn without_part(map: &FileMap) -> FileMap {
+    let mut map = map.clone();
+    if let Some(inode) = map.inode_of(PART) {
+        map.names.retain(|(name, _)| name != PART);
+        map.files.remove(&inode);
+    }
+    map
+}
