@@ -6,10 +6,60 @@ use samples::{
     create, done, entry_add, entry_remove, entry_write, formatted, put_log, write, zero_page,
 };
 
+/// What a volume holds.
+#[derive(Clone, Copy)]
+pub enum Kind {
+    /// One small file.
+    NearlyEmpty,
+    /// The lower half of the pages in use.
+    HalfFull,
+    /// Nearly every page in use.
+    Full,
+    /// The directory's log in every page.
+    LongDirectory,
+}
+
+impl Kind {
+    /// Every kind, in the order of the tables.
+    pub const ALL: [Kind; 4] = [
+        Kind::NearlyEmpty,
+        Kind::HalfFull,
+        Kind::Full,
+        Kind::LongDirectory,
+    ];
+
+    /// Its name.
+    pub fn name(self) -> &'static str {
+        match self {
+            Kind::NearlyEmpty => "nearly empty",
+            Kind::HalfFull => "half full",
+            Kind::Full => "full",
+            Kind::LongDirectory => "long directory",
+        }
+    }
+
+    /// The kind with this name, with "-" for a space.
+    pub fn named(name: &str) -> Option<Kind> {
+        let mut all = Kind::ALL.into_iter();
+        all.find(|kind| kind.name().replace(' ', "-") == name)
+    }
+
+    /// The maker of volumes of this kind, from their page count.
+    pub fn make(self) -> fn(u64) -> Subject {
+        match self {
+            Kind::NearlyEmpty => nearly_empty,
+            Kind::HalfFull => half_full,
+            Kind::Full => full,
+            Kind::LongDirectory => long_directory,
+        }
+    }
+}
+
 /// A volume, and the arguments of the calls on it.
 #[derive(Clone)]
 pub struct Subject {
     pub volume: Vec<u8>,
+    /// Its page count and inode count.
     pub pages: u64,
     pub inodes: u64,
     /// How many names stand.
@@ -53,8 +103,8 @@ impl Subject {
     }
 }
 
-/// The volume with the directory's head and tail in the journal.
-fn opened(volume: &[u8]) -> Vec<u8> {
+/// A volume with the directory's head and tail in the journal, and other values in their words.
+pub fn opened(volume: &[u8]) -> Vec<u8> {
     let mut open = volume.to_vec();
     for (target, place) in [(65, 0), (66, 1)] {
         set_word(&mut open, 16 + 2 * place, target);
@@ -76,7 +126,7 @@ fn stores(volume: &[u8]) -> Vec<u64> {
 }
 
 /// One file of 514 bytes.
-pub fn nearly_empty(pages: u64) -> Subject {
+fn nearly_empty(pages: u64) -> Subject {
     let mut volume = formatted(pages, 8);
     done(&mut volume, &create(b"A1"));
     done(&mut volume, &write(1, 510, b"text"));
@@ -85,11 +135,7 @@ pub fn nearly_empty(pages: u64) -> Subject {
 
 /// The inode count of the larger volumes: as many as a volume of so many pages may have and hold.
 fn inodes_for(pages: u64) -> u64 {
-    match pages {
-        16 => 8,
-        128 => 64,
-        _ => 256,
-    }
+    (pages / 2).clamp(8, 256)
 }
 
 /// A name of its own for each number, of different lengths.
@@ -102,12 +148,12 @@ fn name(number: u64) -> Vec<u8> {
 }
 
 /// Nearly every page in use, ten at most left: an eighth for the directory's log, the others for files, a third of them log pages.
-pub fn full(pages: u64) -> Subject {
+fn full(pages: u64) -> Subject {
     used_up_to(pages, pages)
 }
 
 /// As [`full`], but the upper half of the pages is free.
-pub fn half_full(pages: u64) -> Subject {
+fn half_full(pages: u64) -> Subject {
     used_up_to(pages, pages / 2)
 }
 
@@ -118,7 +164,7 @@ fn used_up_to(pages: u64, end: u64) -> Subject {
     let mut unused = inodes / 8 + 1..end;
     let log: Vec<u64> = unused.by_ref().take((end as usize / 8).max(2)).collect();
     let left = unused.end - unused.start;
-    let files = (inodes - 1).min(224).min(left / 2);
+    let files = (inodes - 1).min(223).min(left / 2);
     put_log(
         &mut volume,
         0,
@@ -168,7 +214,7 @@ fn put_file(volume: &mut [u8], inode: u64, own: &[u64]) {
 }
 
 /// The directory's log in every page; at most 224 names stand in the end.
-pub fn long_directory(pages: u64) -> Subject {
+fn long_directory(pages: u64) -> Subject {
     let mut volume = formatted(pages, 8);
     let log: Vec<u64> = (2..pages).collect();
     let entries = 7 * log.len() as u64;

@@ -1,0 +1,71 @@
+//! The calls that are timed, each written once for the compiled calls and the reference model.
+
+use crate::timing::{Effort, Time};
+use crate::volumes::Subject;
+use calls::Refusal;
+use std::fmt::Debug;
+use std::hint::black_box;
+
+/// A name that stands on no volume.
+const NEW: &[u8] = b"a new name";
+
+/// A call to time: its name, and what it answers on a volume and how long that takes, compiled and by the reference model.
+pub struct Timed {
+    pub name: &'static str,
+    pub compiled: fn(&mut Subject, Effort) -> (String, Time),
+    pub reference: fn(&mut Subject, Effort) -> (String, Time),
+}
+
+/// The call with this name.
+pub fn timed_call(name: &str) -> &'static Timed {
+    let named = CALLS.iter().find(|call| call.name == name);
+    named.expect("a call that is timed")
+}
+
+/// Times a call; answers its answer as a table shows it, and its time.
+fn timed<T: Debug>(effort: Effort, mut call: impl FnMut() -> Result<T, Refusal>) -> (String, Time) {
+    let mut answer = None;
+    let time = effort.time(|| answer = Some(black_box(call())));
+    let answer = match answer.expect("the call was made") {
+        Ok(number) => format!("{number:?}").replace("()", "done"),
+        Err(refusal) => format!("refused {}", refusal.number()),
+    };
+    (answer, time)
+}
+
+/// Makes the table of calls; `library` is the one crate and then the other.
+macro_rules! timed {
+    ($($name:ident: |$subject:ident, $library:ident| $call:expr;)*) => {
+        /// The calls, in the order of the tables.
+        pub const CALLS: &[Timed] = &[$(Timed {
+            name: stringify!($name),
+            compiled: |$subject, effort| {
+                use calls as $library;
+                timed(effort, || $call)
+            },
+            reference: |$subject, effort| {
+                use reference as $library;
+                timed(effort, || $call)
+            },
+        }),*];
+    };
+}
+
+timed! {
+    find: |on, library| library::find(&on.volume, &on.name);
+    size: |on, library| library::size(&on.volume, on.inode);
+    read: |on, library| library::read(&on.volume, on.file, 0, &mut on.buffer);
+    kth_name: |on, library| library::kth_name(&on.volume, on.names - 1, &mut on.buffer);
+    free_count: |on, library| library::free_count(&on.volume);
+    format: |on, library| library::format(&mut on.volume, on.pages, on.inodes);
+    carry_out: |on, library| library::carry_out(&mut on.volume, &on.list, on.list.len() as u64);
+    create: |on, library| library::create(&on.volume, NEW, &mut on.room);
+    link: |on, library| library::link(&on.volume, &on.name, NEW, &mut on.room);
+    unlink: |on, library| library::unlink(&on.volume, &on.name, &mut on.room);
+    rename: |on, library| library::rename(&on.volume, &on.name, NEW, &mut on.room);
+    write: |on, library| library::write(&on.volume, on.file, 0, &on.buffer, &mut on.room);
+    set_size: |on, library| library::set_size(&on.volume, on.file, 100, &mut on.room);
+    clean: |on, library| library::clean(&on.volume, on.file, &mut on.room);
+    cleaned_names: |on, library| library::clean(&on.volume, 0, &mut on.room);
+    recover: |on, library| library::recover(&on.open, &mut on.room);
+}
