@@ -1,5 +1,5 @@
 -- The value is the enqueue position as it was read.
-use borrow.Author.Needs.{needs}
+use native.Mathlib.Omega.{arith}
 use Rattle.cleaning.proofs.closing.Statement.{statement}
 use Rattle.cleaning.proofs.closing.Tie as tie
 
@@ -7,5 +7,5 @@ pub closing-spec : {M : Type 1} → statement M
 closing-spec =
     tie.close
     (tie.spec
-    (λ c κs. search needs)
-    (λ c. search needs))
+    (λ c κs. omega arith)
+    (λ c. search))

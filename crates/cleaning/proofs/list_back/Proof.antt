@@ -1,6 +1,5 @@
 -- The plan's singles are the old values, and dequeue is committed behind them.
 use native.Mathlib.Omega.{arith}
-use borrow.Author.Needs.{needs}
 use Rattle.cleaning.proofs.Recovering.{open-dequeue, open-enqueue, open-long, open-most, open-least, open-few, back-fits, back-room, back-listed}
 use Rattle.cleaning.proofs.list_back.Statement.{statement}
 use Rattle.cleaning.proofs.list_back.Tie as tie
@@ -10,9 +9,9 @@ list-back-spec =
     tie.close
     (tie.spec
     (λ c κs. omega (arith, open-long))
-    (λ c κs. search (open-dequeue, open-enqueue, open-long, needs))
-    (λ c κs. search (open-dequeue, open-long, open-few, needs))
-    (λ c κs. search (open-long, needs))
-    (λ c κs. (search (back-fits, needs), omega (arith, open-most), omega (arith, open-least), search (back-room, needs)))
-    (λ c. search needs)
-    (λ c. search (back-listed, needs)))
+    (λ c κs. search (open-dequeue, open-enqueue, open-long))
+    (λ c κs. search (open-dequeue, open-long, open-few))
+    (λ c κs. search open-long)
+    (λ c κs. (search back-fits, omega (arith, open-most), omega (arith, open-least), search back-room))
+    (λ c. search)
+    (λ c. search back-listed))

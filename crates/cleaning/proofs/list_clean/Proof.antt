@@ -1,6 +1,5 @@
 -- The plan is the log alone, and head and tail are committed behind it.
 use native.Mathlib.Omega.{arith}
-use borrow.Author.Needs.{needs}
 use Rattle.cleaning.proofs.Anew.{anew-long, anew-inode, anew-log, anew-small, anew-enough, anew-fits, anew-pages, anew-bytes, anew-enqueue, anew-inside, anew-room, anew-listed}
 use Rattle.cleaning.proofs.list_clean.Statement.{statement}
 use Rattle.cleaning.proofs.list_clean.Tie as tie
@@ -10,10 +9,10 @@ list-clean-spec =
     tie.close
     (tie.spec
     (λ c κs. omega (arith, anew-long))
-    (λ c κs. search (anew-inode, needs))
-    (λ c κs. search needs)
-    (λ c κs. search (anew-inode, needs))
-    (λ c κs. (search (anew-log, needs), search (anew-small, needs), search (anew-enough, needs)))
-    (λ c κs. (search (anew-fits, needs), search (anew-pages, needs), search needs, search (anew-bytes, needs), search (anew-enqueue, needs), search needs, search (anew-inside, needs), search (anew-room, needs)))
-    (λ c. search needs)
-    (λ c. search (anew-listed, needs)))
+    (λ c κs. search anew-inode)
+    (λ c κs. tt)
+    (λ c κs. search anew-inode)
+    (λ c κs. (search anew-log, search anew-small, search anew-enough))
+    (λ c κs. (search anew-fits, search anew-pages, search, search anew-bytes, search anew-enqueue, omega arith, search anew-inside, search anew-room))
+    (λ c. search)
+    (λ c. search anew-listed))

@@ -1,7 +1,7 @@
 -- The loop's invariant: the singles that are put, and behind them the old values from p on, store what all old values store.
 use Prim.Native.Nat.{_+_, _<_}
 use mathlib.Core.Path.{_≡_}
-use borrow.Author.Needs.{needs}
+use native.Mathlib.Omega.{arith}
 use lib.ListN.{length}
 use Rattle.model.specs.Words.{word}
 use Rattle.model.specs.Journal.{dequeueWord}
@@ -26,13 +26,13 @@ plan-back-spec =
     (tie.spec
     Inv-loop
     μ-loop
-    (λ c κs. search needs)
-    (λ c κs. search needs)
-    (λ c. search (back-start, needs))
-    (λ c κs. search needs)
-    (λ c κs. search needs)
-    (λ c. search needs)
-    (λ c. search needs)
-    (λ c. search needs)
-    (λ c. search (back-next, back-long, needs))
-    (λ c. search (back-end, needs)))
+    (λ c κs. omega arith)
+    (λ c κs. omega arith)
+    (λ c. search (back-start, arith))
+    (λ c κs. omega arith)
+    (λ c κs. search)
+    (λ c. omega arith)
+    (λ c. search)
+    (λ c. omega arith)
+    (λ c. search (back-next, back-long, arith))
+    (λ c. search back-end))

@@ -1,5 +1,6 @@
 -- The loop's invariant: the text of the pages that are left, put in from here on, gives the text of the group.
 use Prim.Native.Nat.{_*_, _-_, _≤_}
+use native.Mathlib.Omega.{arith}
 use borrow.Author.Needs.{needs}
 use Rattle.model.specs.Stores.{listed}
 use Rattle.stores.proofs.Emitting.{Rest}
@@ -21,12 +22,12 @@ emit-group-spec =
     (tie.spec
     Inv-loop
     μ-loop
-    (λ c κs. search needs)
-    (λ c. (search (pages-within, needs), search (pages-start, needs)))
+    (λ c κs. search)
+    (λ c. (search pages-within, search pages-start))
     (λ c κs. search (pages-room, needs))
-    (λ c. search needs)
-    (λ c κs. search needs)
-    (λ c. search (pages-less, needs))
-    (λ c. (search (pages-within, needs), search (pages-next, needs)))
-    (λ c. search needs)
-    (λ c. search (pages-end, needs)))
+    (λ c. omega arith)
+    (λ c κs. search)
+    (λ c. search pages-less)
+    (λ c. (search pages-within, search pages-next))
+    (λ c. search)
+    (λ c. search pages-end))

@@ -1,6 +1,7 @@
 -- The loop's invariant: the text of the words that are left, put in from here on, gives the text of the page.
 use Prim.Native.Nat.{_+_, _*_}
 use mathlib.Core.Path.{_≡_}
+use native.Mathlib.Omega.{arith}
 use borrow.Author.Needs.{needs}
 use Rattle.model.specs.Stores.{listed}
 use Rattle.stores.proofs.Emitting.{Rest, rest-all}
@@ -22,17 +23,17 @@ emit-page-spec =
     (tie.spec
     Inv-loop
     μ-loop
-    (λ c. search needs)
-    (λ c. search (rest-all, needs))
-    (λ c κs. search needs)
-    (λ c. search needs)
-    (λ c. search needs)
-    (λ c. search needs)
-    (λ c. search needs)
+    (λ c. omega arith)
+    (λ c. search rest-all)
+    (λ c κs. search)
+    (λ c. omega arith)
+    (λ c. search)
+    (λ c. search)
+    (λ c. omega arith)
     (λ c. search (words-keep, words-store, needs))
-    (λ c. search needs)
-    (λ c κs. search (words-room, needs))
-    (λ c. search needs)
+    (λ c. search)
+    (λ c κs. search words-room)
+    (λ c. omega arith)
     (λ c. search (words-keep, words-store, needs))
-    (λ c. search needs)
-    (λ c. search (words-end, needs)))
+    (λ c. search)
+    (λ c. search words-end))

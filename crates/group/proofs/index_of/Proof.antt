@@ -1,6 +1,7 @@
 -- The loop's invariant: the pages passed, and the index among those that are left, give the index among all.
 use Prim.Native.Nat.{_+_}
 use mathlib.Core.Path.{_≡_}
+use native.Mathlib.Omega.{arith}
 use borrow.Author.Needs.{needs}
 use Rattle.model.specs.Lists.{indexOf}
 use Rattle.group.specs.Plan.{part}
@@ -21,12 +22,12 @@ index-of-spec =
     (tie.spec
     Inv-loop
     μ-loop
-    (λ c. search needs)
-    (λ c κs. search needs)
+    (λ c. omega arith)
+    (λ c κs. omega arith)
     (λ c. search (index-here, needs))
-    (λ c. search needs)
-    (λ c. search needs)
-    (λ c. search needs)
-    (λ c. search needs)
+    (λ c. omega arith)
+    (λ c. omega arith)
+    (λ c. search)
+    (λ c. omega arith)
     (λ c. search (index-next, needs))
     (λ c. search (index-end, needs)))

@@ -1,6 +1,6 @@
 -- Each return is a case of the layout of entries.
-use borrow.Author.Needs.{needs}
-use Rattle.group.proofs.Parts.{lays}
+use native.Mathlib.Omega.{arith}
+use Rattle.group.proofs.Parts.{lay-out, lay-link, lay-last, lay-footer, lay-before, lay-behind, lay-word}
 use Rattle.group.proofs.laid.Statement.{statement}
 use Rattle.group.proofs.laid.Tie as tie
 
@@ -8,20 +8,20 @@ pub laid-spec : {M : Type 1} → statement M
 laid-spec =
     tie.close
     (tie.spec
-    (λ c κs. search needs)
-    (λ c. search (lays, needs))
-    (λ c. search needs)
-    (λ c. search needs)
-    (λ c κs. search needs)
-    (λ c. search (lays, needs))
-    (λ c. search (lays, needs))
-    (λ c. search (lays, needs))
-    (λ c. search needs)
-    (λ c. search needs)
-    (λ c. search (lays, needs))
-    (λ c. search needs)
-    (λ c. search (lays, needs))
-    (λ c. search needs)
-    (λ c. search needs)
-    (λ c κs. search needs)
-    (λ c. search (lays, needs)))
+    (λ c κs. search)
+    (λ c. search lay-out)
+    (λ c. omega arith)
+    (λ c. omega arith)
+    (λ c κs. omega arith)
+    (λ c. search lay-link)
+    (λ c. search lay-last)
+    (λ c. search lay-footer)
+    (λ c. omega arith)
+    (λ c. omega arith)
+    (λ c. search lay-before)
+    (λ c. omega arith)
+    (λ c. search lay-behind)
+    (λ c. omega arith)
+    (λ c. omega arith)
+    (λ c κs. omega arith)
+    (λ c. search lay-word))

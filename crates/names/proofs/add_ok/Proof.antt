@@ -1,5 +1,4 @@
 -- An inode out of range fails the definition's test at once; of another the name decides.
-use borrow.Author.Needs.{needs}
 use Rattle.names.proofs.Fields.{add-none, add-far, add-is}
 use Rattle.names.proofs.add_ok.Statement.{statement}
 use Rattle.names.proofs.add_ok.Tie as tie
@@ -8,7 +7,7 @@ pub add-ok-spec : {M : Type 1} → statement M
 add-ok-spec =
     tie.close
     (tie.spec
-    (λ c. search (add-none, needs))
-    (λ c. search (add-far, needs))
-    (λ c κs. search needs)
-    (λ c. search (add-is, needs)))
+    (λ c. search add-none)
+    (λ c. search add-far)
+    (λ c κs. search)
+    (λ c. search add-is))

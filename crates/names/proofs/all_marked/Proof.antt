@@ -1,6 +1,7 @@
 -- The loop's invariant: the files among the inodes that are left are all marked if and only if all files are.
 use Prim.Native.Nat.{_≤_}
 use mathlib.Core.Path.{_≡_}
+use native.Mathlib.Omega.{arith}
 use borrow.Author.Needs.{needs}
 use Rattle.model.specs.Lists.{allBelow}
 use Rattle.model.specs.Words.{word}
@@ -24,9 +25,9 @@ all-marked-spec =
     Inv-loop
     μ-loop
     (λ c. search needs)
-    (λ c. search needs)
-    (λ c κs. search needs)
-    (λ c. search (named-not, needs))
-    (λ c. search needs)
-    (λ c. search (named-next, needs))
-    (λ c. search (named-end, needs)))
+    (λ c. search)
+    (λ c κs. omega arith)
+    (λ c. search named-not)
+    (λ c. omega arith)
+    (λ c. search (named-next, arith))
+    (λ c. search named-end))

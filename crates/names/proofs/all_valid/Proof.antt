@@ -3,7 +3,7 @@ use Prim.Native.Nat.{_+_}
 use mathlib.Core.Path.{_≡_}
 use mathlib.Core.Bool.{true}
 use lib.ListN.{length}
-use borrow.Author.Needs.{needs}
+use native.Mathlib.Omega.{arith}
 use Rattle.model.specs.Lists.{all}
 use Rattle.model.specs.Words.{word}
 use Rattle.model.specs.Journal.{view}
@@ -28,13 +28,13 @@ all-valid-spec =
     (tie.spec
     Inv-loop
     μ-loop
-    (λ c. search (places-start, needs))
-    (λ c κs. search needs)
-    (λ c κs. search (place-in, needs))
-    (λ c κs. search needs)
-    (λ c. search (valid-not, needs))
-    (λ c. search needs)
-    (λ c. search needs)
-    (λ c. search needs)
-    (λ c. search (places-skip, valid-next, needs))
-    (λ c. search (valid-end, needs)))
+    (λ c. search (places-start, arith))
+    (λ c κs. omega arith)
+    (λ c κs. search place-in)
+    (λ c κs. search)
+    (λ c. search valid-not)
+    (λ c. omega arith)
+    (λ c. search)
+    (λ c. omega arith)
+    (λ c. search (places-skip, valid-next, arith))
+    (λ c. search valid-end))

@@ -1,5 +1,4 @@
 -- The head and the tail come from the view; where the walk between them ends, the fold over its entries gives the directory's names.
-use borrow.Author.Needs.{needs}
 use native.Mathlib.Omega.{arith}
 use borrow.Author.Tests.{eqb-true}
 use Rattle.log.proofs.Viewed.{start-room, start-inside}
@@ -13,12 +12,12 @@ directory-spec =
     (tie.spec
     (λ c. omega (arith, eqb-true))
     (λ c. omega (arith, eqb-true))
-    (λ c κs. search (head-in, needs))
+    (λ c κs. search (head-in, arith))
     (λ c. omega (arith, eqb-true))
     (λ c. omega (arith, eqb-true))
-    (λ c κs. search (tail-in, needs))
-    (λ c κs. search needs)
-    (λ c. search (not-found, needs))
-    (λ c κs. search (start-room, needs))
-    (λ c κs. search (start-inside, start-eight, needs))
-    (λ c. search (fold-is, needs)))
+    (λ c κs. search (tail-in, arith))
+    (λ c κs. search)
+    (λ c. search not-found)
+    (λ c κs. search start-room)
+    (λ c κs. search (start-inside, start-eight))
+    (λ c. search fold-is))

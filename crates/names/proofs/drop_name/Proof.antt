@@ -4,7 +4,7 @@ use mathlib.Core.Path.{_≡_}
 use mathlib.Core.Bool.{true}
 use mathlib.Core.List.{_++_}
 use lib.ListN.{length, take}
-use borrow.Author.Needs.{needs}
+use native.Mathlib.Omega.{arith}
 use Rattle.model.specs.Lists.{all, filter}
 use Rattle.model.specs.Words.{word}
 use Rattle.names.specs.Places.{placesFrom, placeOk, otherName}
@@ -26,16 +26,16 @@ drop-name-spec =
     (tie.spec
     Inv-loop
     μ-loop
-    (λ c. search (places-start, kept-start, needs))
-    (λ c κs. search needs)
-    (λ c. search needs)
-    (λ c. search needs)
-    (λ c. search needs)
-    (λ c κs. search (place-in, place-named, needs))
-    (λ c κs. search needs)
-    (λ c. search needs)
-    (λ c. search needs)
-    (λ c. search (places-keep, kept-keep, long-set, needs))
-    (λ c. search needs)
-    (λ c. search (places-skip, kept-skip, needs))
-    (λ c. search (dropped, needs)))
+    (λ c. search (places-start, kept-start, arith))
+    (λ c κs. omega arith)
+    (λ c. omega arith)
+    (λ c. search)
+    (λ c. omega arith)
+    (λ c κs. search (place-in, place-named))
+    (λ c κs. omega arith)
+    (λ c. omega arith)
+    (λ c. omega arith)
+    (λ c. search (places-keep, kept-keep, long-set, arith))
+    (λ c. omega arith)
+    (λ c. search (places-skip, kept-skip, arith))
+    (λ c. search dropped))

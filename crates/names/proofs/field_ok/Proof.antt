@@ -1,7 +1,7 @@
 -- The loop's invariant: the bytes that are left are the rest of the name and zeros if and only if all 32 are the name and zeros.
 use Prim.Native.Nat.{_+_}
 use mathlib.Core.Path.{_≡_}
-use borrow.Author.Needs.{needs}
+use native.Mathlib.Omega.{arith}
 use Rattle.model.specs.Lists.{valuesFrom}
 use Rattle.model.specs.Words.{word, byteAt}
 use Rattle.names.specs.Fields.{nameThenZeros}
@@ -22,16 +22,16 @@ field-ok-spec =
     (tie.spec
     Inv-loop
     μ-loop
-    (λ c. search needs)
-    (λ c κs. search needs)
-    (λ c. search needs)
-    (λ c. search needs)
-    (λ c. search needs)
-    (λ c. search (name-zero, needs))
-    (λ c. search (name-slash, needs))
-    (λ c. search needs)
-    (λ c. search (name-next, needs))
-    (λ c. search (rest-bad, needs))
-    (λ c. search needs)
-    (λ c. search (rest-next, needs))
-    (λ c. search (field-end, needs)))
+    (λ c. search)
+    (λ c κs. omega arith)
+    (λ c. omega arith)
+    (λ c. search)
+    (λ c. search)
+    (λ c. search name-zero)
+    (λ c. search name-slash)
+    (λ c. omega arith)
+    (λ c. search (name-next, arith))
+    (λ c. search rest-bad)
+    (λ c. omega arith)
+    (λ c. search (rest-next, arith))
+    (λ c. search field-end))

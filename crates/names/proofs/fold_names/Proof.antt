@@ -4,7 +4,7 @@ use mathlib.Core.Path.{_≡_}
 use mathlib.Core.Bool.{true}
 use mathlib.Core.List.{[]}
 use lib.ListN.{length, take}
-use borrow.Author.Needs.{needs}
+use native.Mathlib.Omega.{arith}
 use Rattle.model.specs.Lists.{all, foldl}
 use Rattle.model.specs.Words.{word}
 use Rattle.model.specs.Entry.{nameEntryOk}
@@ -33,14 +33,14 @@ fold-names-spec =
     (tie.spec
     Inv-loop
     μ-loop
-    (λ c. search needs)
-    (λ c. search (start-names, start-filled, needs))
-    (λ c. search (names-done, needs))
-    (λ c κs. search (step-here, step-there, step-low, needs))
-    (λ c κs. search (at-stands, needs))
-    (λ c. search (all-bad, needs))
-    (λ c κs. (search (at-stands, needs), search (at-eight, needs), search (passed, needs), search needs, search needs))
-    (λ c. search needs)
-    (λ c. search needs)
-    (λ c. search (within-turn, all-turn, fold-turn, count-turn, fill-turn, next-eight, needs))
-    (λ c. search (names-spent, needs)))
+    (λ c. omega arith)
+    (λ c. search (start-names, start-filled, arith))
+    (λ c. search names-done)
+    (λ c κs. search (step-here, step-there, step-low))
+    (λ c κs. search at-stands)
+    (λ c. search all-bad)
+    (λ c κs. (search at-stands, search at-eight, search passed, omega arith, search))
+    (λ c. search)
+    (λ c. omega arith)
+    (λ c. search (within-turn, all-turn, fold-turn, count-turn, fill-turn, next-eight, arith))
+    (λ c. search names-spent))

@@ -1,5 +1,4 @@
 -- The five words are the name's length and its four words; they are the same exactly if the names are, since the volume's bytes are below 256.
-use borrow.Author.Needs.{needs}
 use native.Mathlib.Omega.{arith}
 use Rattle.names.proofs.Same.{names-same}
 use Rattle.names.proofs.same_name.Statement.{statement}
@@ -9,7 +8,7 @@ pub same-name-spec : {M : Type 1} → statement M
 same-name-spec =
     tie.close
     (tie.spec
-    (λ c. search needs)
-    (λ c. search needs)
-    (λ c κs. search needs)
-    (λ c. names-same _ _ _ _ (λ j. omega (arith, c .before .shared-slice-known .given j)) (search needs) (search needs) (search needs)))
+    (λ c. omega arith)
+    (λ c. omega arith)
+    (λ c κs. omega arith)
+    (λ c. names-same _ _ _ _ (λ j. omega (arith, c .before .shared-slice-known .given j)) (search) (search) (search)))

@@ -2,7 +2,7 @@
 use Prim.Native.Nat.{_+_, _*_, _≤_}
 use mathlib.Core.Path.{_≡_}
 use lib.ListN.{length}
-use borrow.Author.Needs.{needs}
+use native.Mathlib.Omega.{arith}
 use Rattle.model.specs.Words.{word}
 use Rattle.names.specs.Fields.{sameWords}
 use Rattle.names.proofs.Same.{words-next, words-not, words-end}
@@ -22,13 +22,13 @@ same-words-spec =
     (tie.spec
     Inv-loop
     μ-loop
-    (λ c. search needs)
-    (λ c κs. search needs)
-    (λ c κs. search needs)
-    (λ c. search (words-not, needs))
-    (λ c. search needs)
-    (λ c. search needs)
-    (λ c. search needs)
-    (λ c. search needs)
-    (λ c. search (words-next, needs))
-    (λ c. search (words-end, needs)))
+    (λ c. search)
+    (λ c κs. omega arith)
+    (λ c κs. omega arith)
+    (λ c. search words-not)
+    (λ c. omega arith)
+    (λ c. omega arith)
+    (λ c. search)
+    (λ c. omega arith)
+    (λ c. search (words-next, arith))
+    (λ c. search words-end))

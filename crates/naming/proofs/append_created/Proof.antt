@@ -9,8 +9,8 @@ append-created-spec =
     tie.close
     (tie.spec
     (λ c κs. search needs)
-    (λ c. (search (lacks-answer, needs), search (lacks-list, needs)))
-    (λ c κs. search (closed-word-0, needs))
-    (λ c κs. (search (taken-ready, needs), search (within, needs), search (second-new, needs), search (new-room, needs)))
-    (λ c. search needs)
-    (λ c. (search (new-answer, needs), search (new-list, needs))))
+    (λ c. (search lacks-answer, search lacks-list))
+    (λ c κs. search closed-word-0)
+    (λ c κs. (search taken-ready, search within, search second-new, search new-room))
+    (λ c. search)
+    (λ c. (search new-answer, search new-list)))

@@ -1,5 +1,5 @@
 -- The gate and the first checks refuse as the model does; what is left is the append with the new inode.
-use borrow.Author.Needs.{needs}
+use native.Mathlib.Omega.{arith}
 use Rattle.gate.proofs.Gates.{gate-word-1, gate-filled, gate-readable}
 use Rattle.naming.proofs.Calls.{gate-create-answer, gate-create-list, create-told-answer, create-told-list, closed-here, create-above, create-below, create-room, create-answer, create-list}
 use Rattle.naming.proofs.create.Statement.{statement}
@@ -9,14 +9,14 @@ pub create-spec : {M : Type 1} → statement M
 create-spec =
     tie.close
     (tie.spec
-    (λ c κs. search needs)
-    (λ c. search needs)
-    (λ c. (search (gate-create-answer, needs), search (gate-create-list, needs)))
-    (λ c κs. search (gate-word-1, needs))
-    (λ c κs. (search (gate-filled, needs), search (gate-readable, needs)))
-    (λ c. search needs)
-    (λ c. (search (create-told-answer, needs), search (create-told-list, needs)))
-    (λ c κs. search needs)
+    (λ c κs. search)
+    (λ c. search)
+    (λ c. (search gate-create-answer, search gate-create-list))
+    (λ c κs. search gate-word-1)
+    (λ c κs. (search gate-filled, search gate-readable))
+    (λ c. search)
+    (λ c. (search create-told-answer, search create-told-list))
+    (λ c κs. omega arith)
     (λ c κs.
     let b1 = c .before .before .before in
     let put = b1 .put-add .ensures in
@@ -31,5 +31,5 @@ create-spec =
     let b6 = b5 .before .before in
     let g = b6 .filling .ensures in
     (search (closed-here, g, e), search (create-above, g, e, w, h, j), search (create-below, g, e, w, h, j), search (create-room, g, e, w, h, j, put)))
-    (λ c. search needs)
-    (λ c. (search (create-answer, needs), search (create-list, needs))))
+    (λ c. search)
+    (λ c. (search create-answer, search create-list)))

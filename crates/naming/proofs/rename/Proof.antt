@@ -1,5 +1,5 @@
 -- The gate and the first checks refuse as the model does; what is left is nothing, or the append with the inode that is released.
-use borrow.Author.Needs.{needs}
+use native.Mathlib.Omega.{arith}
 use Rattle.gate.proofs.Gates.{gate-filled}
 use Rattle.naming.proofs.Calls.{gate-rename-answer, gate-rename-list, rename-told-answer, rename-told-list, same-answer, same-list, closed-here, rename-low, rename-fits, rename-answer, rename-list}
 use Rattle.naming.proofs.rename.Statement.{statement}
@@ -9,17 +9,17 @@ pub rename-spec : {M : Type 1} → statement M
 rename-spec =
     tie.close
     (tie.spec
-    (λ c κs. search needs)
-    (λ c. search needs)
-    (λ c. (search (gate-rename-answer, needs), search (gate-rename-list, needs)))
-    (λ c κs. search (gate-filled, needs))
-    (λ c. search needs)
-    (λ c. (search (rename-told-answer, needs), search (rename-told-list, needs)))
-    (λ c κs. search (gate-filled, needs))
-    (λ c. (search (same-answer, needs), search (same-list, needs)))
-    (λ c κs. search (gate-filled, needs))
-    (λ c κs. search needs)
-    (λ c κs. search needs)
+    (λ c κs. search)
+    (λ c. search)
+    (λ c. (search gate-rename-answer, search gate-rename-list))
+    (λ c κs. search gate-filled)
+    (λ c. search)
+    (λ c. (search rename-told-answer, search rename-told-list))
+    (λ c κs. search gate-filled)
+    (λ c. (search same-answer, search same-list))
+    (λ c κs. search gate-filled)
+    (λ c κs. omega arith)
+    (λ c κs. omega arith)
     (λ c κs.
     let b1 = c .before .before .before in
     let put2 = b1 .put-add .ensures in
@@ -39,8 +39,8 @@ rename-spec =
     let e = b8 .gate .given .1 in
     let b9 = b8 .before .before in
     let g = b9 .filling .ensures in
-    (search (closed-here, g, e), search needs, search (rename-low, g, e, h, j, d, o, b), rename-fits _ _ _ _ _ g _ e _ _ _ h _ j _ d (o .left) _ b _ _ _ put put2))
-    (λ c. search needs)
+    (search (closed-here, g, e), omega arith, search (rename-low, g, e, h, j, d, o, b), rename-fits _ _ _ _ _ g _ e _ _ _ h _ j _ d (o .left) _ b _ _ _ put put2))
+    (λ c. search)
     (λ c.
     let b1 = c .before .before in
     let a = b1 .append-entries .ensures in

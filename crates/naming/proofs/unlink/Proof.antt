@@ -1,5 +1,5 @@
 -- The gate and the first checks refuse as the model does; what is left is the append, with the inode that is released.
-use borrow.Author.Needs.{needs}
+use native.Mathlib.Omega.{arith}
 use Rattle.gate.proofs.Gates.{gate-filled}
 use Rattle.naming.proofs.Calls.{gate-unlink-answer, gate-unlink-list, unlink-told-answer, unlink-told-list, closed-here, unlink-low, unlink-room, unlink-answer, unlink-list}
 use Rattle.naming.proofs.unlink.Statement.{statement}
@@ -9,14 +9,14 @@ pub unlink-spec : {M : Type 1} → statement M
 unlink-spec =
     tie.close
     (tie.spec
-    (λ c κs. search needs)
-    (λ c. search needs)
-    (λ c. (search (gate-unlink-answer, needs), search (gate-unlink-list, needs)))
-    (λ c κs. search (gate-filled, needs))
-    (λ c. search needs)
-    (λ c. (search (unlink-told-answer, needs), search (unlink-told-list, needs)))
-    (λ c κs. search (gate-filled, needs))
-    (λ c κs. search needs)
+    (λ c κs. search)
+    (λ c. search)
+    (λ c. (search gate-unlink-answer, search gate-unlink-list))
+    (λ c κs. search gate-filled)
+    (λ c. search)
+    (λ c. (search unlink-told-answer, search unlink-told-list))
+    (λ c κs. search gate-filled)
+    (λ c κs. omega arith)
     (λ c κs.
     let b1 = c .before .before .before in
     let put = b1 .put-remove .ensures in
@@ -30,6 +30,6 @@ unlink-spec =
     let e = b5 .gate .given .1 in
     let b6 = b5 .before .before in
     let g = b6 .filling .ensures in
-    (search (closed-here, g, e), search needs, search (unlink-low, g, e, h, j, b), search (unlink-room, g, e, h, j, b, put)))
-    (λ c. search needs)
-    (λ c. (search (unlink-answer, needs), search (unlink-list, needs))))
+    (search (closed-here, g, e), omega arith, search (unlink-low, g, e, h, j, b), search (unlink-room, g, e, h, j, b, put)))
+    (λ c. search)
+    (λ c. (search unlink-answer, search unlink-list)))

@@ -9,7 +9,7 @@ append-cut-spec =
     tie.close
     (tie.spec
     (λ c κs. search needs)
-    (λ c. search (cut-lacks, needs))
-    (λ c κs. (search needs, search (cut-ready, needs), search needs, search needs, search needs, search needs))
-    (λ c. search needs)
-    (λ c. search needs))
+    (λ c. search cut-lacks)
+    (λ c κs. (search, search cut-ready, search, search, search, search))
+    (λ c. search)
+    (λ c. search))

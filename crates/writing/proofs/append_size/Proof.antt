@@ -9,7 +9,7 @@ append-size-spec =
     tie.close
     (tie.spec
     (λ c κs. search needs)
-    (λ c. search (size-lacks, needs))
-    (λ c κs. (search (size-ready, needs), search needs, search needs, search needs))
-    (λ c. search needs)
-    (λ c. search needs))
+    (λ c. search size-lacks)
+    (λ c κs. (search size-ready, search, search, search))
+    (λ c. search)
+    (λ c. search))

@@ -1,5 +1,5 @@
 -- The two cases of the larger number.
-use borrow.Author.Needs.{needs}
+use native.Mathlib.Omega.{arith}
 use Rattle.writing.proofs.larger.Statement.{statement}
 use Rattle.writing.proofs.larger.Tie as tie
 
@@ -7,5 +7,5 @@ pub larger-spec : {M : Type 1} → statement M
 larger-spec =
     tie.close
     (tie.spec
-    (λ c. search needs)
-    (λ c. search needs))
+    (λ c. omega arith)
+    (λ c. omega arith))
