@@ -7,6 +7,7 @@
 use crate::table::{shown, whole, Table};
 use crate::timing::{Effort, Time};
 use calls::{Answer, Refusal};
+use office::disk::land_group;
 use reference::groups;
 use samples::{create, done, formatted, numbered, text, write};
 use std::fs::{self, File, OpenOptions};
@@ -178,15 +179,10 @@ impl InFile {
         }
     }
 
-    /// Stores a list group by group: runs of consecutive words as one write each, and fdatasync as the fence.
+    /// Stores a list group by group, as the office tool does it.
     fn store(&self, list: &[u64]) {
         for group in groups(list) {
-            for run in group.chunk_by(|one, next| one.0 + 1 == next.0) {
-                let bytes: Vec<u8> = run.iter().flat_map(|store| store.1.to_le_bytes()).collect();
-                let written = self.file.write_all_at(&bytes, 8 * run[0].0);
-                written.expect("the stores of a group");
-            }
-            self.file.sync_data().expect("a fence");
+            land_group(&self.file, &group).expect("a group lands");
         }
     }
 }
