@@ -15,25 +15,35 @@ use std::os::unix::ffi::OsStrExt;
 /// assert_eq!(shown_name("\u{85}".as_bytes()), "\\xC2\\x85");
 /// ```
 pub fn shown_name(name: &[u8]) -> String {
-    let mut shown = String::new();
-    for part in name.utf8_chunks() {
+    escaped(name, |letter| !letter.is_control())
+}
+
+/// Bytes as text: the letters of UTF-8 that may stand for themselves as they are, all other bytes as `\xNN`.
+///
+/// ```
+/// use office::text::escaped;
+///
+/// assert_eq!(escaped(b"a\xFFb", |letter| letter != 'b'), "a\\xFF\\x62");
+/// ```
+pub fn escaped(bytes: &[u8], stands: impl Fn(char) -> bool) -> String {
+    let mut text = String::new();
+    for part in bytes.utf8_chunks() {
         for letter in part.valid().chars() {
-            if letter.is_control() {
-                let mut bytes = [0; 4];
-                push_bytes(&mut shown, letter.encode_utf8(&mut bytes).as_bytes());
+            if stands(letter) {
+                text.push(letter);
             } else {
-                shown.push(letter);
+                push_bytes(&mut text, letter.encode_utf8(&mut [0; 4]).as_bytes());
             }
         }
-        push_bytes(&mut shown, part.invalid());
+        push_bytes(&mut text, part.invalid());
     }
-    shown
+    text
 }
 
 /// Adds bytes as `\xNN` each.
-fn push_bytes(shown: &mut String, bytes: &[u8]) {
+fn push_bytes(text: &mut String, bytes: &[u8]) {
     for byte in bytes {
-        shown.push_str(&format!("\\x{byte:02X}"));
+        text.push_str(&format!("\\x{byte:02X}"));
     }
 }
 

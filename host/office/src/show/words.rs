@@ -1,34 +1,17 @@
 //! Words for the things of a volume: names, counts, page numbers, open entries.
 
+use crate::text::escaped;
 use reference::OpenEntry;
-use std::fmt::Write;
 
 /// A name in double quotes: printable UTF-8 as it is, all other bytes as `\xNN`, and so are the double
 /// quote and the backslash, so that different names look different.
 pub(super) fn quoted(name: &[u8]) -> String {
-    let mut text = String::from('"');
-    for chunk in name.utf8_chunks() {
-        for letter in chunk.valid().chars() {
-            if printable(letter) {
-                text.push(letter);
-            } else {
-                push_bytes(&mut text, letter.encode_utf8(&mut [0; 4]).as_bytes());
-            }
-        }
-        push_bytes(&mut text, chunk.invalid());
-    }
-    text + "\""
+    format!("\"{}\"", escaped(name, printable))
 }
 
 /// Whether a letter stands for itself: the standard library would not escape it inside a string.
 fn printable(letter: char) -> bool {
     letter == '\'' || format!("a{letter}").escape_debug().count() == 2
-}
-
-fn push_bytes(text: &mut String, bytes: &[u8]) {
-    for byte in bytes {
-        let _ = write!(text, "\\x{byte:02X}");
-    }
 }
 
 /// Names in quotes, with commas between them.
