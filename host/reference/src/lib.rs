@@ -53,7 +53,7 @@ mod stores;
 pub use accept::{judge, Use, Volume};
 pub use calls::{clean, create, format, link, recover, rename, set_size, unlink, write, Call};
 pub use journal::{Journal, OpenEntry, Position};
-pub use log::{Entry, File, Log};
+pub use log::{replay_names, Entry, File, Log};
 pub use map::{map, map_after, refused_by_map, FileMap};
 pub use reading::{find, free_count, kth_name, listing, read, size};
 pub use refusal::{Answer, Refusal};

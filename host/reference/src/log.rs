@@ -174,11 +174,8 @@ impl Log {
         }
     }
 
-    /// The entries of the log in order, 64 bytes each.
-    pub(crate) fn entries<'a, 'v: 'a>(
-        &'a self,
-        volume: &'v [u8],
-    ) -> impl Iterator<Item = &'v [u8]> + 'a {
+    /// The entries of the log in order, 64 bytes each. The volume is the one that was walked.
+    pub fn entries<'a, 'v: 'a>(&'a self, volume: &'v [u8]) -> impl Iterator<Item = &'v [u8]> + 'a {
         self.pages.iter().flat_map(move |&page| {
             let start = page * PAGE_BYTES;
             let end = if page == self.tail / PAGE_BYTES {
@@ -215,10 +212,7 @@ impl File {
     }
 
     /// Replays a file's log from its entries; `None` if one of them may not stand there.
-    pub(crate) fn replay<'v>(
-        entries: impl Iterator<Item = &'v [u8]>,
-        sizes: Sizes,
-    ) -> Option<File> {
+    pub fn replay<'v>(entries: impl Iterator<Item = &'v [u8]>, sizes: Sizes) -> Option<File> {
         let mut file = File::default();
         for bytes in entries {
             match Entry::read(bytes, sizes)? {
@@ -256,7 +250,7 @@ impl File {
 ///
 /// `None` if an entry may not stand in the directory. In the middle of the log any count of names
 /// may stand.
-pub(crate) fn replay_names<'v>(
+pub fn replay_names<'v>(
     entries: impl Iterator<Item = &'v [u8]>,
     sizes: Sizes,
 ) -> Option<Vec<(&'v [u8], u64)>> {

@@ -2,17 +2,16 @@
 
 use super::pages::names_of;
 use super::words::{counted, put_back, quoted, quoted_names, range};
-use reference::layout::{DIRECTORY, PAGE_BYTES};
+use reference::layout::DIRECTORY;
 use reference::{Entry, Log, Volume};
 
-/// A log page has seven entries of 64 bytes.
-const ENTRIES: u64 = 7;
-const ENTRY_BYTES: u64 = 64;
+/// A log page has seven entries.
+const ENTRIES: usize = 7;
 
 /// An entry of a log: its page, its number there from 1 on, and its 64 bytes.
 pub(super) struct Placed<'v> {
     pub(super) page: u64,
-    pub(super) number: u64,
+    pub(super) number: usize,
     pub(super) bytes: &'v [u8],
 }
 
@@ -20,23 +19,13 @@ pub(super) struct Placed<'v> {
 ///
 /// The log's pages lie inside the volume.
 pub(super) fn placed<'v>(volume: &'v [u8], log: &Log) -> Vec<Placed<'v>> {
-    let mut entries = Vec::new();
-    for &page in &log.pages {
-        let last = page == log.tail / PAGE_BYTES;
-        let count = if last {
-            log.tail % PAGE_BYTES / ENTRY_BYTES
-        } else {
-            ENTRIES
-        };
-        let start = (page * PAGE_BYTES) as usize;
-        let bytes = volume[start..].chunks_exact(ENTRY_BYTES as usize);
-        entries.extend((1..=count).zip(bytes).map(|(number, bytes)| Placed {
-            page,
-            number,
-            bytes,
-        }));
-    }
-    entries
+    let entries = log.entries(volume).enumerate();
+    let placed = entries.map(|(index, bytes)| Placed {
+        page: log.pages[index / ENTRIES],
+        number: index % ENTRIES + 1,
+        bytes,
+    });
+    placed.collect()
 }
 
 /// The log of an inode in words; none if the inode is not valid.

@@ -1,12 +1,11 @@
 //! The entries of the logs, each judged from its own 64 bytes, and what they mean in the end.
 
-use super::files::File;
 use super::{Checked, View};
-use crate::show::log::{placed, Placed};
+use crate::show::log::placed;
 use crate::show::words::quoted;
 use reference::layout::{word, Sizes, DIRECTORY, FILE_PAGES, NAME_BYTES, SIZE_LIMIT};
-use reference::{Entry, Log};
-use std::collections::{BTreeMap, HashMap};
+use reference::{replay_names, File, Log};
+use std::collections::BTreeMap;
 
 /// Where the name starts in an entry of kind 3 or 4.
 const NAME_START: usize = 24;
@@ -16,22 +15,10 @@ pub(super) fn names<'v>(
     view: &View<'v>,
     logs: &BTreeMap<u64, Log>,
 ) -> Checked<Vec<(&'v [u8], u64)>> {
-    let mut list = Vec::new();
-    let mut places: HashMap<&[u8], usize> = HashMap::new();
-    for entry in entries(view, DIRECTORY, &logs[&DIRECTORY])? {
-        let earlier = match entry {
-            Entry::Add { inode, name } => {
-                list.push(Some((name, inode)));
-                places.insert(name, list.len() - 1)
-            }
-            Entry::Remove { name } => places.remove(name),
-            Entry::Write { .. } | Entry::SetSize { .. } => None,
-        };
-        if let Some(place) = earlier {
-            list[place] = None;
-        }
-    }
-    Ok(list.into_iter().flatten().collect())
+    let log = &logs[&DIRECTORY];
+    check_entries(view, DIRECTORY, log)?;
+    // Every entry is good, so that there is a replay.
+    Ok(replay_names(log.entries(view.bytes), view.sizes).unwrap_or_default())
 }
 
 /// The files that the logs mean, by inode.
@@ -42,56 +29,48 @@ pub(super) fn files(view: &View<'_>, logs: &BTreeMap<u64, Log>) -> Checked<BTree
 }
 
 fn file(view: &View<'_>, inode: u64, log: &Log) -> Checked<File> {
-    let mut file = File::default();
-    for entry in entries(view, inode, log)? {
-        file.replay(&entry);
-    }
-    Ok(file)
+    check_entries(view, inode, log)?;
+    // Every entry is good, so that there is a replay.
+    Ok(File::replay(log.entries(view.bytes), view.sizes).unwrap_or_default())
 }
 
-/// The entries of a log in order, each good by itself and of a kind that the log may hold.
-fn entries<'v>(view: &View<'v>, inode: u64, log: &Log) -> Checked<Vec<Entry<'v>>> {
-    let read = |placed: Placed<'v>| {
+/// Each entry of a log is good by itself and of a kind that the log may hold.
+fn check_entries(view: &View<'_>, inode: u64, log: &Log) -> Checked<()> {
+    for placed in placed(view.bytes, log) {
         let (page, number) = (placed.page, placed.number);
         let place = |wrong| format!("inode {inode}, log page {page}, entry {number}: {wrong}");
-        entry(placed.bytes, view.sizes, inode).map_err(place)
-    };
-    placed(view.bytes, log).into_iter().map(read).collect()
+        entry(placed.bytes, view.sizes, inode).map_err(place)?;
+    }
+    Ok(())
 }
 
 /// The directory has kinds 3 and 4, files 1 and 2.
-fn entry(bytes: &[u8], sizes: Sizes, inode: u64) -> Checked<Entry<'_>> {
+fn entry(bytes: &[u8], sizes: Sizes, inode: u64) -> Checked<()> {
     match (word(bytes, 0), inode == DIRECTORY) {
         (1, false) => write(bytes, sizes),
-        (2, false) => size(word(bytes, 1)).map(|size| Entry::SetSize { size }),
+        (2, false) => size(word(bytes, 1)),
         (3, true) => add(bytes, sizes),
-        (4, true) => name(bytes).map(|name| Entry::Remove { name }),
+        (4, true) => name(bytes),
         (kind, true) => Err(format!("kind {kind} is none of the directory's")),
         (kind, false) => Err(format!("kind {kind} is none of a file's")),
     }
 }
 
 /// Sizes are at most 65,536.
-fn size(size: u64) -> Checked<u64> {
+fn size(size: u64) -> Checked<()> {
     if size <= SIZE_LIMIT {
-        return Ok(size);
+        return Ok(());
     }
     Err(format!("size {size} is over {SIZE_LIMIT}"))
 }
 
 /// Write counts are 1 to 128, file pages end at or below 128, data pages lie in T+1 to P−1.
-fn write(bytes: &[u8], sizes: Sizes) -> Checked<Entry<'_>> {
+fn write(bytes: &[u8], sizes: Sizes) -> Checked<()> {
     let [file_page, data_page, count] = [1, 2, 3].map(|index| word(bytes, index));
-    let size = size(word(bytes, 4))?;
+    size(word(bytes, 4))?;
     write_count(count)?;
     file_pages(file_page, count)?;
-    data_pages(data_page, count, sizes)?;
-    Ok(Entry::Write {
-        file_page,
-        data_page,
-        count,
-        size,
-    })
+    data_pages(data_page, count, sizes)
 }
 
 fn write_count(count: u64) -> Checked<()> {
@@ -124,24 +103,23 @@ fn data_pages(first: u64, count: u64, sizes: Sizes) -> Checked<()> {
 }
 
 /// Added inodes are 1 to N−1.
-fn add(bytes: &[u8], sizes: Sizes) -> Checked<Entry<'_>> {
-    let name = name(bytes)?;
+fn add(bytes: &[u8], sizes: Sizes) -> Checked<()> {
+    name(bytes)?;
     let inode = word(bytes, 1);
     let last = sizes.inodes() - 1;
     if (1..=last).contains(&inode) {
-        return Ok(Entry::Add { inode, name });
+        return Ok(());
     }
     Err(format!("the added inode {inode} is not 1 to {last}"))
 }
 
 /// Names have 1 to 32 bytes, none of them 0 or 47, and the bytes after a name are 0.
-fn name(bytes: &[u8]) -> Checked<&[u8]> {
+fn name(bytes: &[u8]) -> Checked<()> {
     let length = name_length(word(bytes, 2))?;
     let field = &bytes[NAME_START..NAME_START + NAME_BYTES];
     let (name, rest) = field.split_at(length);
     name_bytes(name)?;
-    zero_after(name, rest)?;
-    Ok(name)
+    zero_after(name, rest)
 }
 
 fn name_length(length: u64) -> Checked<usize> {

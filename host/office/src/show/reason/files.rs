@@ -1,47 +1,9 @@
-//! The files that the logs mean, and their ends.
+//! The ends of the files.
 
 use super::{Checked, View};
 use reference::layout::PAGE_BYTES;
-use reference::Entry;
+use reference::File;
 use std::collections::BTreeMap;
-
-/// What a file's log means in the end.
-#[derive(Default)]
-pub(super) struct File {
-    size: u64,
-    /// The data page of each mapped file page.
-    mapped: BTreeMap<u64, u64>,
-}
-
-impl File {
-    /// The mapped file pages, ascending, each with its data page.
-    pub(super) fn mapped(&self) -> impl Iterator<Item = (u64, u64)> + '_ {
-        self.mapped
-            .iter()
-            .map(|(&file_page, &page)| (file_page, page))
-    }
-
-    /// Maps, unmaps and sets the size as an entry of kind 1 or 2 does it.
-    pub(super) fn replay(&mut self, entry: &Entry<'_>) {
-        match *entry {
-            Entry::Write {
-                file_page,
-                data_page,
-                count,
-                size,
-            } => {
-                let pages = (file_page..file_page + count).zip(data_page..);
-                self.mapped.extend(pages);
-                self.size = size;
-            }
-            Entry::SetSize { size } => {
-                self.mapped.retain(|page, _| page * PAGE_BYTES < size);
-                self.size = size;
-            }
-            Entry::Add { .. } | Entry::Remove { .. } => {}
-        }
-    }
-}
 
 /// In the end no mapped page starts at or after the size, and a mapped page holding the size is zero
 /// from there on.

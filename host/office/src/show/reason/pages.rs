@@ -1,10 +1,9 @@
 //! The pages: none serves twice among log pages and mapped pages of valid inodes.
 
-use super::files::File;
 use super::Checked;
 use crate::show::pages::use_text;
 use reference::layout::Sizes;
-use reference::{Log, Use};
+use reference::{File, Log, Use};
 use std::collections::BTreeMap;
 
 /// What each page serves for, as far as it is read.
