@@ -26,7 +26,7 @@
  * Threads. Calls may run at the same time, on one volume or on several, while nothing stores in the volume
  * and no two of them share a buffer.
  *
- * Stack. A call needs less than 72 KB (73,728 bytes) of stack, nearly all of it for its tables. It does not
+ * Stack. A call needs at most 40 KB (40,960 bytes) of stack, nearly all of it for its tables. It does not
  * recurse, and it always returns.
  *
  * Example. Read the first bytes of the file "A1":

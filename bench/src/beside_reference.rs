@@ -48,8 +48,19 @@ fn row(call: &Timed, subjects: &[Subject], effort: Effort) -> Vec<String> {
     let mut cells = vec![call.name.to_string()];
     let mut times = Vec::new();
     for subject in subjects {
-        let (answer, compiled) = (call.compiled)(&mut subject.clone(), effort);
-        let (same, reference) = (call.reference)(&mut subject.clone(), effort);
+        let (mut answer, mut same) = (String::new(), String::new());
+        let [compiled, reference] = effort.in_turns(
+            |effort| {
+                let (said, time) = (call.compiled)(&mut subject.clone(), effort);
+                answer = said;
+                time
+            },
+            |effort| {
+                let (said, time) = (call.reference)(&mut subject.clone(), effort);
+                same = said;
+                time
+            },
+        );
         assert_eq!(answer, same, "{}", call.name);
         let both = format!("{} / {}", shown(compiled.best), shown(reference.best));
         let refused = answer.starts_with("refused");

@@ -14,6 +14,9 @@ pub struct Effort {
     pub least: u32,
 }
 
+/// How many rounds two operations take turns in.
+const ROUNDS: u32 = 10;
+
 impl Effort {
     /// For figures to be kept.
     pub const FULL: Effort = Effort {
@@ -27,6 +30,20 @@ impl Effort {
         all: Duration::from_micros(60),
         least: 1,
     };
+
+    /// The times of two operations that take turns in rounds, so that a machine which is slow for a while is slow for both.
+    pub fn in_turns(
+        self,
+        mut first: impl FnMut(Effort) -> Time,
+        mut second: impl FnMut(Effort) -> Time,
+    ) -> [Time; 2] {
+        let part = Effort {
+            all: self.all / ROUNDS,
+            ..self
+        };
+        let rounds: Vec<[Time; 2]> = (0..ROUNDS).map(|_| [first(part), second(part)]).collect();
+        [0, 1].map(|which| Time::of_rounds(rounds.iter().map(|round| round[which])))
+    }
 
     /// The time of an operation that may be repeated as it is.
     pub fn time<T>(self, mut operation: impl FnMut() -> T) -> Time {
@@ -97,6 +114,17 @@ impl Time {
         }
     }
 
+    /// The best of some rounds, and the median of their medians.
+    fn of_rounds(rounds: impl Iterator<Item = Time>) -> Time {
+        let (best, mut medians): (Vec<f64>, Vec<f64>) =
+            rounds.map(|time| (time.best, time.median)).unzip();
+        medians.sort_unstable_by(f64::total_cmp);
+        Time {
+            best: best.into_iter().fold(f64::INFINITY, f64::min),
+            median: medians[medians.len() / 2],
+        }
+    }
+
     /// The median in terms of the best: 1 where nothing disturbed.
     pub fn spread(self) -> f64 {
         self.median / self.best
@@ -122,6 +150,27 @@ mod tests {
         let mut batches = [30, 10, 20].map(Duration::from_nanos);
         let time = Time::of_batches(&mut batches, 10);
         assert_eq!((time.best, time.median, time.spread()), (1.0, 2.0, 2.0));
+    }
+
+    #[test]
+    fn the_best_round_counts_and_the_median_one() {
+        let times = [3.0, 1.0, 2.0].map(|best| Time {
+            best,
+            median: 10.0 * best,
+        });
+        let time = Time::of_rounds(times.into_iter());
+        assert_eq!((time.best, time.median), (1.0, 20.0));
+    }
+
+    #[test]
+    fn two_operations_take_turns() {
+        let turns = std::cell::RefCell::new(String::new());
+        let timed = |name| {
+            turns.borrow_mut().push(name);
+            Effort::QUICK.time(|| ())
+        };
+        Effort::QUICK.in_turns(|_| timed('a'), |_| timed('b'));
+        assert_eq!(turns.into_inner(), "ab".repeat(ROUNDS as usize));
     }
 
     #[test]

@@ -21,7 +21,9 @@ enum {
     GUARD = 4096,        /* bytes that nobody may touch, on each side of lent memory */
     ROOM = 3 * GUARD,    /* lent memory */
     MOST_LEN = 9000,     /* the longest slice that is lent */
-    STACK_LIMIT = 72 * 1024
+    STACK_LIMIT = 40 * 1024,
+    MANY_PAGES = 48,     /* of a volume with many names */
+    MANY_NAMES = 193     /* one more than the small index of names holds */
 };
 
 static unsigned long checks, failures;
@@ -355,35 +357,71 @@ static void every_bit(const uint8_t *volume)
     }
 }
 
-/* The three calls, for a thread of its own. */
-static void *three_calls(void *volume)
+/* Case C on 48 pages with 192 names more, of four digits, that lead to inode 1 too: the directory's log goes on in pages 6, 7, ... */
+static void put_many_names(uint8_t *volume)
+{
+    size_t n, page = 2;
+    memset(volume, 0, MANY_PAGES * PAGE);
+    put_case_c(volume);
+    put_word(volume, 0, MANY_PAGES);
+    for (n = 1; n < MANY_NAMES; n++) {
+        size_t place = n % 7, index;
+        char name[8] = {0};
+        if (place == 0) {
+            put_word(volume, 64 * page + 56, n / 7 + 5);
+            page = n / 7 + 5;
+        }
+        index = 64 * page + 8 * place;
+        sprintf(name, "%04u", (unsigned)n);
+        memset(volume + 8 * index, 0, 64);
+        put_word(volume, index, 3);
+        put_word(volume, index + 1, 1);
+        put_word(volume, index + 2, 4);
+        memcpy(volume + 8 * index + 24, name, 4);
+    }
+    put_word(volume, 66, PAGE * page + 64 * (MANY_NAMES % 7));
+}
+
+/* A volume and its length, for a thread of its own. */
+struct lent_bytes {
+    uint8_t *volume;
+    size_t len;
+};
+
+/* The three calls. */
+static void *three_calls(void *argument)
 {
     static uint8_t buffer[600];
-    int64_t sum = volume_find(volume, VOLUME_LEN, (const uint8_t *)"A1", 2);
-    sum += volume_size(volume, VOLUME_LEN, 1);
-    sum += volume_read(volume, VOLUME_LEN, 1, 0, buffer, sizeof buffer);
-    return sum == 1 + FILE_LEN + FILE_LEN ? volume : NULL;
+    const struct lent_bytes *lent = argument;
+    int64_t sum = volume_find(lent->volume, lent->len, (const uint8_t *)"A1", 2);
+    sum += volume_size(lent->volume, lent->len, 1);
+    sum += volume_read(lent->volume, lent->len, 1, 0, buffer, sizeof buffer);
+    return sum == 1 + FILE_LEN + FILE_LEN ? argument : NULL;
 }
 
 /* A thread that makes no call, to know what a thread itself takes. */
-static void *no_calls(void *volume)
+static void *no_calls(void *argument)
 {
-    return volume;
+    return argument;
 }
 
-/* The calls need no more stack than include/volume.h says. */
-static void stack_need(uint8_t *volume)
+/* The calls need no more stack than include/volume.h says, with few names and with many. */
+static void stack_need(uint8_t *volume, size_t len, const char *what)
 {
-    size_t alone = stack_used(no_calls, volume);
-    size_t used = stack_used(three_calls, volume) - alone;
-    check(alone != 0, "calls in a thread", 0, 0);
-    check(used < STACK_LIMIT, "bytes of stack", (int64_t)used, STACK_LIMIT);
-    printf("stack: %lu bytes\n", (unsigned long)used);
+    struct lent_bytes lent;
+    size_t alone, all;
+    lent.volume = volume;
+    lent.len = len;
+    alone = stack_used(no_calls, &lent);
+    all = stack_used(three_calls, &lent);
+    check(alone != 0 && all > alone, what, (int64_t)all, (int64_t)alone);
+    check(all - alone <= STACK_LIMIT, what, (int64_t)(all - alone), STACK_LIMIT);
+    printf("stack with %s: %lu bytes\n", what, (unsigned long)(all - alone));
 }
 
 int main(void)
 {
-    static uint8_t volume[VOLUME_LEN];
+    static uint8_t volume[VOLUME_LEN], many[MANY_PAGES * PAGE];
     make_room(&lent_volume);
     make_room(&lent_name);
     make_room(&lent_buffer);
@@ -394,7 +432,9 @@ int main(void)
     wrong_lengths(volume);
     noise();
     every_bit(volume);
-    stack_need(volume);
+    stack_need(volume, sizeof volume, "one name");
+    put_many_names(many);
+    stack_need(many, sizeof many, "193 names");
     printf("%s: %lu checks, %lu do not hold\n", failures == 0 ? "passed" : "failed", checks, failures);
     return failures == 0 ? 0 : 1;
 }

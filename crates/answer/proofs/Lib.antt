@@ -1,2 +1,2 @@
--- The cases of `code`.
-mod Codes
+-- The cases of the two numbers, and what an answer that is no number is.
+pub mod Codes

@@ -37,6 +37,11 @@ plain = mapAnswer (λ n. none)
 abbrev pub numbered : model.Answer ℕ → model.Answer (Option ℕ)
 numbered = mapAnswer some
 
+-- the number of a refusal, and 0 of an answer that is none
+abbrev pub refusalOf : model.Answer (Option ℕ) → ℕ
+refusalOf (refused n) = n
+refusalOf (done x) = 0
+
 -- the largest number of an i64
 abbrev largest : ℕ
 largest = 2 ^ 63 - 1

@@ -1,6 +1,7 @@
 // What the calls of the file store answer, and the number that C gets for it.
 ghost use mathlib.Core.Path.{_≡_};
-ghost use Rattle.answer.specs.Meaning.{meaning, codeOf};
+ghost use Prim.Native.Nat.{_≤_};
+ghost use Rattle.answer.specs.Meaning.{meaning, refusalOf, codeOf};
 
 // What a call answers. specs/Meaning.antt gives document 01's number and value of each case.
 pub enum Answer {
@@ -36,33 +37,42 @@ pub enum Answer {
     BadList,
 }
 
+// Answers the number of a refusal, by "What the screen says", and 0 of an answer that is none.
+// Example: refusal(Answer::Damaged) is 3, and refusal(Answer::Number(514)) is 0.
+pub fn refusal(answer: Answer) -> u64
+    ensures { λ r. ⌜ (r ≡ refusalOf (meaning answer)) × (r ≤ 13) ⌝ }
+{
+    match answer {
+        Answer::Done => 0,
+        Answer::Number(_) => 0,
+        Answer::ShortMemory => 1,
+        Answer::NoVolume => 2,
+        Answer::Damaged => 3,
+        Answer::JournalOpen => 4,
+        Answer::BadName => 5,
+        Answer::NotThere => 6,
+        Answer::Taken => 7,
+        Answer::LongWrite => 8,
+        Answer::PastTheEnd => 9,
+        Answer::NoInode => 10,
+        Answer::DirectoryFull => 11,
+        Answer::NoSpace => 12,
+        Answer::BadList => 13,
+    }
+}
+
 // Answers an answer as one number, as the C firmware gets it: the answer's number (0 where it has none), or minus the
 // number of the refusal. A number too large for an i64, which no call answers, comes out as the largest i64.
 // Example: code(Answer::Number(514)) is 514, code(Answer::Done) is 0 and code(Answer::NoSpace) is -12.
 pub fn code(answer: Answer) -> i64
     ensures { λ r. ⌜ r ≡ codeOf (meaning answer) ⌝ }
 {
-    match answer {
-        Answer::Done => 0,
-        Answer::Number(x) => {
-            if x < 9223372036854775808 {
-                x as i64
-            } else {
-                9223372036854775807
-            }
-        }
-        Answer::ShortMemory => -1,
-        Answer::NoVolume => -2,
-        Answer::Damaged => -3,
-        Answer::JournalOpen => -4,
-        Answer::BadName => -5,
-        Answer::NotThere => -6,
-        Answer::Taken => -7,
-        Answer::LongWrite => -8,
-        Answer::PastTheEnd => -9,
-        Answer::NoInode => -10,
-        Answer::DirectoryFull => -11,
-        Answer::NoSpace => -12,
-        Answer::BadList => -13,
+    let Answer::Number(x) = answer else {
+        return 0 - (refusal(answer) as i64);
+    };
+    if x < 9223372036854775808 {
+        x as i64
+    } else {
+        9223372036854775807
     }
 }

@@ -1,6 +1,6 @@
 -- For the calls by name: the directory's names are those of the table, so that the checks are the model's, and refusal 12 is what is left.
 use Prim.Native.Nat.{ℕ}
-use mathlib.Core.Path.{_≡_, refl, sym, _∙_}
+use mathlib.Core.Path.{_≡_, refl}
 use mathlib.Core.Bool.{not, _&&_}
 use mathlib.Core.List.{List, [], _∷_, _++_}
 use lib.ListN.{length, take}
@@ -14,17 +14,18 @@ use Rattle.model.specs.Answer.{done, Checks, firstRefusal, noSpace}
 use Rattle.model.specs.Calls.{checks, createChecks, linkChecks, unlinkChecks, renameChecks, isFull, invalidInode, sameInode, noRoom}
 use Rattle.model.specs.Calls.{createAppend, linkAppend, unlinkAppend, renameAppend}
 use Rattle.model.specs.Public.{fills, callAnswer, callList}
-use Rattle.names.specs.Places.{standing}
+use Rattle.directory.specs.Places.{standing}
 use Rattle.answer.specs.Meaning.{meaning, numbered}
 use Rattle.answer.specs.declared.Answer.{Answer}
 use Rattle.answer.specs.declared.Answer.the-variants.{Number}
 use Rattle.gate.specs.Gated.{rootNames, fillChecks, Gated}
-use Rattle.gate.proofs.Gates.{NoNumber, same-number}
+use Rattle.gate.proofs.Gates.{same-number}
+use Rattle.answer.proofs.Codes.{NoNumber}
 use Rattle.gate.proofs.Lists.{filledWords, ownChecks, stage-refused, stage-behind}
 use Rattle.checks.specs.Names.{freeInode, createFirst, renameFirst, linkFirst, unlinkFirst}
 
 -- r, places and marks are what the gate answered and left
-module _ (v l : List ℕ) (r : Answer) (places marks : List ℕ) (g : Gated v (fillChecks (length v) (word v) (length l)) r places marks) (n : ℕ) (e : r ≡ Number n) where
+module _ (v l : List ℕ) (r : Answer) (places marks : List ℕ) (g : Gated v root (fillChecks (length v) (word v) (length l)) r places marks) (n : ℕ) (e : r ≡ Number n) where
   abbrev found : Names
   found = standing (word v) (take n places)
 

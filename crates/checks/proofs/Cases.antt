@@ -1,26 +1,27 @@
 -- Each test of the code is one of the checks, and those before it did not hold.
 use Prim.Native.Nat.{ℕ, _≤_, _<_}
-use mathlib.Core.Path.{_≡_, refl, sym, _∙_, ap}
-use mathlib.Core.Bool.{Bool, true, false, not, _&&_}
+use mathlib.Core.Path.{_≡_, refl}
+use mathlib.Core.Bool.{Bool, true, false, not}
 use mathlib.Core.List.{List, [], _∷_, _++_}
-use mathlib.Core.Option.{Option, some}
+use mathlib.Core.Option.{some}
 use borrow.Author.Tests.{le-leb, lt-leb, eq-eqb, ne-eqb, not-true, not-false}
 use lib.Dec.{leb, eqb}
 use lib.ListN.{length, take}
-use Rattle.model.specs.Lists.{orElse, isSome}
+use Rattle.model.specs.Lists.{isSome}
 use Rattle.model.specs.Words.{Mem}
 use Rattle.model.specs.Layout.{mostNames}
 use Rattle.model.specs.Entry.{nameOk}
 use Rattle.model.specs.State.{Names, inodeOf}
 use Rattle.model.specs.Answer.{refused, done, Checks, firstRefusal, badName, notThere, taken, noInode, directoryFull}
 use Rattle.model.specs.Calls.{invalidInode}
-use Rattle.names.specs.Places.{standing, Filled}
-use Rattle.names.proofs.Table.{standing-length}
+use Rattle.directory.specs.Places.{standing, Filled}
+use Rattle.directory.proofs.Table.{standing-length}
 use Rattle.links.proofs.Lowest.{inode-some}
 use Rattle.answer.specs.Meaning.{meaning, numbered}
 use Rattle.answer.specs.declared.Answer.{Answer}
 use Rattle.answer.specs.declared.Answer.the-variants.{Number}
-use Rattle.gate.proofs.Gates.{NoNumber, checks-after, same-refusal, none-refuses, same-number}
+use Rattle.gate.proofs.Gates.{checks-after, same-refusal, none-refuses, same-number}
+use Rattle.answer.proofs.Codes.{NoNumber}
 use Rattle.checks.specs.Names.{firstInvalid, freeInode, isThere, createFirst, renameFirst, linkFirst, unlinkFirst}
 
 -- The first c places of the table t are those of names in L bytes, and ns are these names.

@@ -1,14 +1,11 @@
 // What the calls that change names ask of the names given, behind the gate and before the pages: refusals 5 to 11. v is the volume, and
 // the first count places of the table are those of its names.
 ghost use mathlib.Core.Path.{_≡_};
-ghost use mathlib.Core.Bool.{not, _&&_};
-ghost use mathlib.Core.List.{[], _∷_};
-ghost use lib.Dec.{eqb};
 ghost use lib.ListN.{length, take};
 ghost use Rattle.model.specs.Words.{word};
 ghost use Rattle.model.specs.Journal.{view};
 ghost use Rattle.model.specs.Answer.{done, firstRefusal};
-ghost use Rattle.names.specs.Places.{standing, Filled};
+ghost use Rattle.directory.specs.Places.{standing, Filled};
 ghost use Rattle.names.specs.Inodes.{Readable};
 ghost use Rattle.answer.specs.Meaning.{meaning, numbered};
 ghost use Rattle.checks.specs.Names.{createFirst, linkFirst, unlinkFirst, renameFirst, freeInode};
@@ -23,7 +20,7 @@ const MOST_NAMES: usize = 224;
 // Example: of a volume just formatted create_checks(v, places, 0, b"A1") is Number(1) and create_checks(v, places, 0, b"") BadName.
 pub fn create_checks(
     v: &[u8],
-    places: &[u16; 28672],
+    places: &[u16; 224],
     count: usize,
     name: &[u8],
     inodes: u64,
@@ -52,7 +49,7 @@ pub fn create_checks(
 // Answers Number with the inode that the old name leads to; BadName, NotThere, Taken or DirectoryFull.
 // Example: where "A1" leads to inode 1 and is the only name, link_checks(v, places, 1, b"A1", b"A2") is Number(1), and
 // link_checks(v, places, 1, b"A1", b"A1") Taken.
-pub fn link_checks(v: &[u8], places: &[u16; 28672], count: usize, old: &[u8], new: &[u8]) -> Answer
+pub fn link_checks(v: &[u8], places: &[u16; 224], count: usize, old: &[u8], new: &[u8]) -> Answer
     requires { ⌜ Filled (word (now v)) (length (now v)) count (now places) ⌝ }
     ensures { λ r. ⌜ meaning r ≡ numbered (firstRefusal
         (linkFirst (standing (word (now (v .entry))) (take count (now (places .entry)))) (now (old .entry)) (now (new .entry)))
@@ -73,7 +70,7 @@ pub fn link_checks(v: &[u8], places: &[u16; 28672], count: usize, old: &[u8], ne
 
 // Answers Number with the inode that a name leads to; BadName or NotThere.
 // Example: where "A1" leads to inode 1, unlink_checks(v, places, 1, b"A1") is Number(1); unlink_checks(v, places, 1, b"A2") is NotThere.
-pub fn unlink_checks(v: &[u8], places: &[u16; 28672], count: usize, name: &[u8]) -> Answer
+pub fn unlink_checks(v: &[u8], places: &[u16; 224], count: usize, name: &[u8]) -> Answer
     requires { ⌜ Filled (word (now v)) (length (now v)) count (now places) ⌝ }
     ensures { λ r. ⌜ meaning r ≡ numbered (firstRefusal
         (unlinkFirst (standing (word (now (v .entry))) (take count (now (places .entry)))) (now (name .entry)))
@@ -92,13 +89,7 @@ pub fn unlink_checks(v: &[u8], places: &[u16; 28672], count: usize, name: &[u8])
 // Answers Number with the inode that the old name leads to; BadName where either is no name, or NotThere.
 // Example: where "A1" leads to inode 1, rename_checks(v, places, 1, b"A1", b"A2") is Number(1), rename_checks(v, places, 1, b"A1", b"")
 // BadName and rename_checks(v, places, 1, b"A2", b"A1") NotThere.
-pub fn rename_checks(
-    v: &[u8],
-    places: &[u16; 28672],
-    count: usize,
-    old: &[u8],
-    new: &[u8],
-) -> Answer
+pub fn rename_checks(v: &[u8], places: &[u16; 224], count: usize, old: &[u8], new: &[u8]) -> Answer
     requires { ⌜ Filled (word (now v)) (length (now v)) count (now places) ⌝ }
     ensures { λ r. ⌜ meaning r ≡ numbered (firstRefusal
         (renameFirst (standing (word (now (v .entry))) (take count (now (places .entry)))) (now (old .entry)) (now (new .entry)))

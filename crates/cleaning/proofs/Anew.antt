@@ -1,18 +1,17 @@
 -- A log that is written anew: its entries are those of the names or of the file, its pages those that were taken, and head and tail are committed together.
 use Prim.Native.Nat.{ℕ, _+_, _*_, _/_, _≤_, _<_}
 use mathlib.Core.Path.{_≡_, refl, sym, _∙_, ap}
-use mathlib.Core.Bool.{true, false, not, _||_}
+use mathlib.Core.Bool.{true, false, not}
 use mathlib.Core.List.{List, [], _∷_}
 use mathlib.Core.Option.{some}
 use native.Mathlib.Omega.{arith}
-use borrow.Author.Tests.{le-leb, lt-leb, leb-true, ltb-false, eq-eqb, ne-eqb, not-true, not-false}
-use lib.Dec.{leb}
+use borrow.Author.Tests.{leb-true, ltb-false, ne-eqb, not-true, not-false}
 use lib.ListN.{length, getD, take, replicate, length-replicate, getD-replicate, List·getD-eq-default}
 use Rattle.model.specs.Words.{Mem, word}
 use Rattle.model.specs.Layout.{headWord, tailWord}
 use Rattle.model.specs.Journal.{enqueueWord, journalOk, view}
 use Rattle.model.specs.State.{fileOf}
-use Rattle.model.specs.Accept.{isValid, logOk, namesOk, viewOk, accepted}
+use Rattle.model.specs.Accept.{logOk, namesOk, viewOk, accepted}
 use Rattle.model.specs.Stores.{Stores, storeList}
 use Rattle.model.specs.Answer.{refused, done, mapAnswer, filledFrom, noSpace}
 use Rattle.model.specs.Calls.{tailAfter, pagesFor, commitTogether, cleanFile, cleanNames, cleanEntries, cleanGroups}
@@ -22,11 +21,9 @@ use Rattle.model.proofs.Frame.View.{view-fine}
 use Rattle.model.proofs.Crash.Journal.{closed-view}
 use Rattle.model.proofs.Crash.Landing.{Sizes, volume-parts, sizes-parts}
 use Rattle.log.specs.Ready.{Ready}
-use Rattle.names.specs.Places.{standing}
-use Rattle.names.proofs.Table.{standing-length}
-use Rattle.files.specs.State.{fileFrom, Folds}
-use Rattle.files.specs.declared.Folded.{Folded}
-use Rattle.files.specs.declared.Folded.the-variants.{Size, Bad}
+use Rattle.directory.specs.Places.{standing}
+use Rattle.directory.proofs.Table.{standing-length}
+use Rattle.files.specs.State.{fileFrom}
 use Rattle.inodes.specs.Judged.{Served}
 use Rattle.survey.proofs.Facts.{volume-long}
 use Rattle.stores.specs.Emitted.{Emitted}
@@ -41,21 +38,9 @@ use Rattle.room.specs.Taken.{CleanTaken}
 use Rattle.room.proofs.Enough.{clean-small, clean-lacks, clean-there, clean-fresh, clean-pages}
 use Rattle.answer.specs.Meaning.{numbered}
 use Rattle.gate.specs.Gated.{rootNames}
-use Rattle.state.proofs.Sizes.{file-log, state-size, state-good}
+use Rattle.state.proofs.Sizes.{file-log}
 use Rattle.cleaning.specs.Anew.{entriesFor, pagesTaken, wordsFor, rewritten, Cleanable, Named, Rewritable, Laid}
 use Rattle.cleaning.proofs.Filling.{volume-ready, only-log, emitted-words}
-
--- the cases of `not_valid`: x is the inode's valid word
-module _ (u : Mem) (N k : ℕ) where
-  pub past-range : N ≤ k → true ≡ leb N k || not (isValid u k)
-  past-range h = rw (le-leb N k h)
-
-  module _ (x : ℕ) (h : k < N) (g : x ≡ u (64 + 8 * k)) where
-    pub one-valid : x ≡ 1 → false ≡ leb N k || not (isValid u k)
-    one-valid y = rw (lt-leb N k h, eq-eqb (u (64 + 8 * k)) 1 (sym g ∙ y))
-
-    pub other-invalid : (x ≡ 1 → ⊥) → true ≡ leb N k || not (isValid u k)
-    other-invalid y = rw (lt-leb N k h, ne-eqb (u (64 + 8 * k)) 1 (λ z. y (g ∙ z)))
 
 -- The entries of inode k.
 module _ (v : List ℕ) (k : ℕ) (c : Cleanable v k) where
@@ -91,21 +76,17 @@ module _ (v : List ℕ) (k : ℕ) (c : Cleanable v k) where
     unfolding cleanEntries
     names-laid w r z h = rw z (rw (n .names) at h)
 
-  -- a file: x and t are what `file_state` answered and left
-  module _ (P N : ℕ) (p : P ≡ word v 0) (q : N ≡ word v 1) (x : Folded) (t : List ℕ)
-      (f : Folds (logOk (view (word v)) P N k) (fileOf (view (word v)) P N k) x t) where
-    good-log : logOk (view (word v)) P N k ≡ true
+  -- a file: n is the size that `judged_file` answered, t the table that it left
+  module _ (P N : ℕ) (p : P ≡ word v 0) (q : N ≡ word v 1) where
+    pub good-log : logOk (view (word v)) P N k ≡ true
     good-log = rw (p, q) (file-log (view (word v)) (word v 0) (word v 1) k good-view (c .below) (c .valid))
 
-    pub file-laid : (n : ℕ) → x ≡ Size n → (k ≡ 0 → ⊥) → (w : List ℕ) (r : ℕ) → Holds w r (cleanFile (fileFrom n t)) → Holds w r (entriesFor v k)
+    pub file-laid : (n : ℕ) (t : List ℕ) → fileFrom n t ≡ fileOf (view (word v)) P N k → (k ≡ 0 → ⊥) → (w : List ℕ) (r : ℕ)
+        → Holds w r (cleanFile (fileFrom n t)) → Holds w r (entriesFor v k)
     unfolding cleanEntries
-    file-laid n e z w r h =
-        let s : n ≡ fileOf (view (word v)) P N k .size = state-size _ _ x t f good-log n e in
-        let i : fileFrom n t ≡ fileOf (view (word v)) (word v 0) (word v 1) k = rw (s, ← p, ← q) (f .file good-log) in
+    file-laid n t f z w r h =
+        let i : fileFrom n t ≡ fileOf (view (word v)) (word v 0) (word v 1) k = rw (← p, ← q) f in
         rw (ne-eqb k 0 z) (rw i at h)
-
-    pub file-bad : (w : List ℕ) (r : ℕ) → x ≡ Bad → Holds w r (entriesFor v k)
-    file-bad w r e = state-good _ _ x t f good-log e
 
 -- `list_clean`: l is the list.
 module _ (v l : List ℕ) (k : ℕ) (w : Rewritable v l k) where

@@ -5,11 +5,11 @@ use mathlib.Core.Bool.{Bool, true, false, not, _||_}
 use mathlib.Core.List.{List, [], _∷_}
 use mathlib.Core.Option.{some}
 use native.Mathlib.Omega.{arith}
-use borrow.Author.Tests.{lt-ltb, leb-false, eq-eqb, ne-eqb, not-false}
+use borrow.Author.Tests.{le-leb, lt-leb, lt-ltb, le-ltb, leb-false, eq-eqb, ne-eqb, not-false}
 use lib.Dec.{leb, ltb}
 use lib.ListN.{length}
-use Rattle.model.specs.Words.{word}
-use Rattle.model.specs.Layout.{tailWord, listWords}
+use Rattle.model.specs.Words.{Mem, word}
+use Rattle.model.specs.Layout.{root, tailWord, listWords}
 use Rattle.model.specs.Journal.{dequeueWord, enqueueWord, isOpen, view}
 use Rattle.model.specs.Accept.{isValid}
 use Rattle.model.specs.FileMap.{clean}
@@ -18,6 +18,7 @@ use Rattle.model.specs.Answer.{refused, done, firstRefusal, mapAnswer, filledFr
 use Rattle.model.specs.Calls.{isEmptyLog, cleanChecks, cleanGroups, checks, groups}
 use Rattle.model.specs.Public.{volumeChecks, closedChecks, fills, callAnswer, callList}
 use Rattle.model.proofs.Tests.{by-lt, or-false}
+use Rattle.names.specs.Inodes.{below, validIn}
 use Rattle.inodes.specs.Judged.{Served}
 use Rattle.answer.specs.Meaning.{meaning, numbered}
 use Rattle.answer.specs.declared.Answer.{Answer}
@@ -28,8 +29,13 @@ use Rattle.gate.proofs.Lists.{ownChecks, stage-behind, filled-whole}
 use Rattle.cleaning.specs.Anew.{wordsFor, cleaned, rewritten, Cleanable, Named, Rewritable}
 use Rattle.cleaning.proofs.Anew.{clean-ready}
 
+-- what `is_valid` answered, as the check says it
+not-there : (u : Mem) (N k : ℕ) (d : Bool) → d ≡ validIn u N k → not d ≡ leb N k || not (isValid u k)
+unfolding validIn below
+not-there u N k d g = by-lt k N (λ h. rw (lt-leb N k h, g, lt-ltb k N h)) (λ h. rw (le-leb N k h, g, le-ltb k N h))
+
 -- r, places and marks are what the gate answered and left of a list of L words, and n is the count of names
-module _ (v : List ℕ) (L : ℕ) (r : Answer) (places marks : List ℕ) (g : Gated v (fillChecks (length v) (word v) L) r places marks) (n : ℕ) (e : r ≡ Number n) where
+module _ (v : List ℕ) (L : ℕ) (r : Answer) (places marks : List ℕ) (g : Gated v root (fillChecks (length v) (word v) L) r places marks) (n : ℕ) (e : r ≡ Number n) where
   long : 4096 ≤ L
   unfolding fillChecks
   long =
@@ -40,11 +46,11 @@ module _ (v : List ℕ) (L : ℕ) (r : Answer) (places marks : List ℕ) (g : Ga
   unfolding fillChecks closedChecks
   closed = last-passes ((ltb L listWords, shortMemory) ∷ volumeChecks (length v) (word v)) (isOpen (word v)) journalOpen _ n (rw e at (g .answer))
 
-  -- what `clean_log` asks for: k is the inode, N the count of inodes, and d what `not_valid` answered
-  pub clean-there : (k N : ℕ) → N ≡ word v 1 → (d : Bool) → d ≡ leb N k || not (isValid (view (word v)) k) → d ≡ false
+  -- what `clean_log` asks for: k is the inode, N the count of inodes, and d what `is_valid` answered
+  pub clean-there : (k N : ℕ) → N ≡ word v 1 → (d : Bool) → d ≡ validIn (view (word v)) N k → not d ≡ false
       → Cleanable v k × Named v n places × Served (view (word v)) (word v 0) (word v 1) true marks × (4096 ≤ L)
   clean-there k N q d a y =
-      let there = or-false (leb N k) (not (isValid (view (word v)) k)) (sym a ∙ y) in
+      let there = or-false (leb N k) (not (isValid (view (word v)) k)) (sym (not-there (view (word v)) N k d a) ∙ y) in
       let tables = g .tables n e in (
         record {
           volume = tables .volume;
@@ -59,22 +65,22 @@ module _ (v : List ℕ) (L : ℕ) (r : Answer) (places marks : List ℕ) (g : Ga
       )
 
 -- the same of the list l
-module _ (v l : List ℕ) (r : Answer) (places marks : List ℕ) (g : Gated v (fillChecks (length v) (word v) (length l)) r places marks) (n : ℕ) (e : r ≡ Number n)
-    (k N : ℕ) (q : N ≡ word v 1) (d : Bool) (a : d ≡ leb N k || not (isValid (view (word v)) k)) where
+module _ (v l : List ℕ) (r : Answer) (places marks : List ℕ) (g : Gated v root (fillChecks (length v) (word v) (length l)) r places marks) (n : ℕ) (e : r ≡ Number n)
+    (k N : ℕ) (q : N ≡ word v 1) (d : Bool) (a : d ≡ validIn (view (word v)) N k) where
   comes : fills (length v) (word v) (length l) (clean k) ≡ firstRefusal (cleanChecks (view (word v)) (word v 0) (word v 1) k) (done (wordsFor v k))
   unfolding checks groups
   comes = stage-behind v l (clean k) refl r places marks g n e [] (ownChecks v (clean k)) refl 0 (Number 0) refl 0 refl
 
-  pub clean-absent : d ≡ true → refused notThere ≡ fills (length v) (word v) (length l) (clean k)
+  pub clean-absent : not d ≡ true → refused notThere ≡ fills (length v) (word v) (length l) (clean k)
   unfolding cleanChecks
-  clean-absent y = sym (comes ∙ rw (← q, ← a, y))
+  clean-absent y = sym (comes ∙ rw (← q, ← (not-there (view (word v)) N k d a), y))
 
-  behind : d ≡ false → fills (length v) (word v) (length l) (clean k) ≡ cleaned v k
+  behind : not d ≡ false → fills (length v) (word v) (length l) (clean k) ≡ cleaned v k
   unfolding cleanChecks cleaned
-  behind y = comes ∙ rw (← q, ← a, y)
+  behind y = comes ∙ rw (← q, ← (not-there (view (word v)) N k d a), y)
 
   -- t and m are what `clean_log` answered and left
-  pub clean-whole : d ≡ false → (t : Answer) (m : List ℕ) → (meaning t ≡ numbered (mapAnswer length (cleaned v k))) × (m ≡ filledFrom l (cleaned v k))
+  pub clean-whole : not d ≡ false → (t : Answer) (m : List ℕ) → (meaning t ≡ numbered (mapAnswer length (cleaned v k))) × (m ≡ filledFrom l (cleaned v k))
       → (meaning t ≡ numbered (callAnswer v l (clean k))) × (m ≡ callList v l (clean k))
   clean-whole y t m b = filled-whole v l (clean k) (cleaned v k) (behind y) t m (b .0) (b .1)
 

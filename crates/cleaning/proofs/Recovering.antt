@@ -11,6 +11,7 @@ use lib.Dec.{eqb}
 use lib.ListN.{length}
 use Rattle.model.specs.Lists.{valuesFrom, has, indexOf}
 use Rattle.model.specs.Words.{Mem, word}
+use Rattle.model.specs.Layout.{root}
 use Rattle.model.specs.Journal.{dequeueWord, enqueueWord, targetWord, oldWord, nextPosition, positions, openCount, openPositions, openTargets, isOpen, putBack, view}
 use Rattle.model.specs.Accept.{accepted}
 use Rattle.model.specs.Stores.{Stores, oneWord, both, storeList}
@@ -32,7 +33,8 @@ use Rattle.answer.specs.Meaning.{meaning, numbered}
 use Rattle.answer.specs.declared.Answer.{Answer}
 use Rattle.answer.specs.declared.Answer.the-variants.{Number}
 use Rattle.gate.specs.Gated.{Gated}
-use Rattle.gate.proofs.Gates.{NoNumber, refusal-of, checks-after, same-refusal, none-refuses}
+use Rattle.gate.proofs.Gates.{refusal-of, checks-after, same-refusal, none-refuses}
+use Rattle.answer.proofs.Codes.{NoNumber}
 use Rattle.gate.proofs.Lists.{told}
 use Rattle.cleaning.specs.Back.{backStores, Opened}
 use Rattle.cleaning.proofs.Filling.{volume-ready, no-singles, none-both, only-log}
@@ -158,7 +160,7 @@ module _ (v l : List ℕ) (h : 4096 ≤ length l) where
   comes = rw (le-ltb (length l) 4096 h) (checks-after (volumeChecks (length v) (word v)) _ _)
 
   -- r is what the gate answered
-  module _ (r : Answer) (places marks : List ℕ) (g : Gated v (volumeChecks (length v) (word v)) r places marks) where
+  module _ (r : Answer) (places marks : List ℕ) (g : Gated v root (volumeChecks (length v) (word v)) r places marks) where
     pub recover-refused : NoNumber r → (meaning r ≡ numbered (callAnswer v l recover)) × (l ≡ callList v l recover)
     recover-refused o =
         let f : List ℕ → Option ℕ = λ x. some (length x) in

@@ -12,7 +12,7 @@ use Rattle.model.specs.Stores.{storeList}
 use Rattle.model.specs.Answer.{Answer, done, firstRefusal, noSpace}
 use Rattle.model.specs.Calls.{pagesFor, cleanEntries, cleanPages, isEmptyLog, cleanGroups}
 use Rattle.model.specs.Public.{isVolume}
-use Rattle.names.specs.Places.{standing, Filled}
+use Rattle.directory.specs.Places.{standing, Filled}
 use Rattle.group.specs.Plan.{part, entriesOf}
 use Rattle.plan.specs.Planned.{Small}
 use Rattle.gate.specs.Gated.{rootNames}

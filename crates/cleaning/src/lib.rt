@@ -1,18 +1,15 @@
 // The calls that write a log anew and that recover a volume. v is the volume; the list is filled from its start on.
 ghost use mathlib.Core.Path.{_≡_};
-ghost use mathlib.Core.Bool.{true, not, _||_};
+ghost use mathlib.Core.Bool.{true};
 ghost use Prim.Native.Nat.{_*_, _≤_, _<_};
-ghost use lib.Dec.{leb};
 ghost use lib.ListN.{length};
 ghost use Rattle.model.specs.Words.{word};
 ghost use Rattle.model.specs.Journal.{dequeueWord, enqueueWord, targetWord, oldWord, view};
-ghost use Rattle.model.specs.Accept.{isValid};
 ghost use Rattle.model.specs.FileMap.{clean, recover};
 ghost use Rattle.model.specs.Stores.{storeList};
 ghost use Rattle.model.specs.Answer.{mapAnswer, filledFrom};
 ghost use Rattle.model.specs.Calls.{recoverGroups};
 ghost use Rattle.model.specs.Public.{callAnswer, callList};
-ghost use Rattle.names.specs.Inodes.{Readable};
 ghost use Rattle.inodes.specs.Judged.{Served};
 ghost use Rattle.stores.specs.Emitted.{Emitted};
 ghost use Rattle.group.specs.Plan.{setPair, singleStores};
@@ -29,28 +26,13 @@ use journal::Position;
 // The words that a store list to be filled has at least.
 const LIST_WORDS: usize = 4096;
 
-// Answers whether an inode is out of range or not valid.
-// Example: of a volume just formatted with 8 inodes not_valid(v, 0, 8) is false; not_valid(v, 1, 8) and not_valid(v, 8, 8) are true.
-fn not_valid(v: &[u8], inode: u64, inodes: u64) -> bool
-    requires { ⌜ Readable (word (now v)) (length (now v)) inodes ⌝ }
-    ensures { λ r. ⌜ r ≡ leb inodes inode || not (isValid (view (word (now (v .entry)))) inode) ⌝ }
-{
-    if inodes <= inode {
-        return true;
-    }
-    if journal::viewed(v, 64 + 8 * (inode as usize)) == 1 {
-        return false;
-    }
-    true
-}
-
 // Lays the entries of a clean log of inode k into the table, and answers how many: those of the directory's names, which stand at the
-// first count places, or those of a file. (A log that is not good, which a valid file of an accepted volume does not have, has none.)
+// first count places, or those of a file.
 // Example: where "a" and "b" are the names, which lead to inodes 3 and 5, clean_entries(v, places, 2, 0, words) is 2, and where file 3
 // has its pages 0 and 1 on data pages 70 and 71, clean_entries(v, places, 2, 3, words) is 1.
 fn clean_entries(
     v: &[u8],
-    places: &[u16; 28672],
+    places: &[u16; 224],
     count: usize,
     k: usize,
     words: &mut [u64; 1792],
@@ -64,11 +46,8 @@ fn clean_entries(
     let pages = words::word_at(v, header::PAGES_WORD);
     let inodes = words::word_at(v, header::INODES_WORD);
     let mut table = [0u64; 128];
-    let state = files::file_state(v, k, pages as usize, inodes as usize, &mut table);
-    match state {
-        files::Folded::Size(n) => entries::clean_file(&table, n, words),
-        files::Folded::Bad => 0,
-    }
+    let size = files::judged_file(v, k, pages as usize, inodes as usize, &mut table);
+    entries::clean_file(&table, size, words)
 }
 
 // Fills the list of clean: a first group with the log in n fresh pages, and the groups that commit head and tail together. Answers the
@@ -130,7 +109,7 @@ fn list_clean(
 // Example: where file 1 has one page, rewrite is Number(40), and NoSpace where no page is free.
 fn rewrite(
     v: &[u8],
-    places: &[u16; 28672],
+    places: &[u16; 224],
     marks: &[u8; 4096],
     count: usize,
     k: usize,
@@ -158,7 +137,7 @@ fn rewrite(
 // Example: of a volume just formatted clean_log(v, places, marks, 0, 0, list) is Number(0).
 fn clean_log(
     v: &[u8],
-    places: &[u16; 28672],
+    places: &[u16; 224],
     marks: &[u8; 4096],
     count: usize,
     k: usize,
@@ -184,14 +163,14 @@ pub fn clean(v: &[u8], inode: u64, list: &mut [u64]) -> Answer
     ensures { λ r. ⌜ (meaning r ≡ numbered (callAnswer (now (v .entry)) (now (list .entry)) (clean inode)))
         × (now (list .exit) ≡ callList (now (v .entry)) (now (list .entry)) (clean inode)) ⌝ }
 {
-    let mut places = [0u16; 28672];
+    let mut places = [0u16; 224];
     let mut marks = [0u8; 4096];
-    let gate = gate::filling(v, list.len(), &mut places, &mut marks);
+    let gate = gate::filling(v, list.len(), gate::ROOT, &mut places, &mut marks);
     let Answer::Number(count) = gate else {
         return gate;
     };
     let inodes = words::word_at(v, header::INODES_WORD);
-    if not_valid(v, inode, inodes) {
+    if !names::is_valid(v, inode as usize, inodes as usize) {
         return Answer::NotThere;
     }
     clean_log(v, &places, &marks, count as usize, inode as usize, list)
@@ -290,9 +269,9 @@ pub fn recover(v: &[u8], list: &mut [u64]) -> Answer
     if list.len() < LIST_WORDS {
         return Answer::ShortMemory;
     }
-    let mut places = [0u16; 28672];
+    let mut places = [0u16; 224];
     let mut marks = [0u8; 4096];
-    let gate = gate::judged(v, &mut places, &mut marks);
+    let gate = gate::judged(v, gate::ROOT, &mut places, &mut marks);
     let Answer::Number(_) = gate else {
         return gate;
     };

@@ -15,8 +15,8 @@ use Rattle.model.specs.Calls.{cleanNames}
 use Rattle.model.proofs.Lists.{length-values, values-at, no-length}
 use Rattle.model.proofs.Words.{leFrom-same, word-drop, byte-word}
 use Rattle.model.proofs.Log.Decode.{padded-at}
-use Rattle.names.specs.Fields.{nameAt, fieldAt}
-use Rattle.names.specs.Places.{standing, Filled}
+use Rattle.directory.specs.Fields.{nameAt, fieldAt}
+use Rattle.directory.specs.Places.{standing, Filled}
 use Rattle.lookup.proofs.Fields.{field-is, length-is}
 use Rattle.group.specs.Plan.{entriesOf}
 use Rattle.entries.specs.Table.{Holds, Put}

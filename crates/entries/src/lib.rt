@@ -10,8 +10,8 @@ ghost use Rattle.model.specs.Lists.{bit};
 ghost use Rattle.model.specs.Words.{leFrom, word};
 ghost use Rattle.model.specs.Entry.{writeWords, sizeWords, nameWords, addWords, removeWords};
 ghost use Rattle.model.specs.Calls.{stretchEntry, stretches, cleanFile, cleanNames};
-ghost use Rattle.names.specs.Fields.{nameAt, fieldAt};
-ghost use Rattle.names.specs.Places.{standing, Filled};
+ghost use Rattle.directory.specs.Fields.{nameAt, fieldAt};
+ghost use Rattle.directory.specs.Places.{standing, Filled};
 ghost use Rattle.files.specs.State.{fileFrom};
 ghost use Rattle.group.specs.Plan.{entriesOf};
 ghost use Rattle.entries.specs.Table.{Holds, Put};
@@ -69,21 +69,13 @@ pub fn put_size(words: &mut [u64; 1792], n: usize, size: u64)
     put_entry(words, n, &e)
 }
 
-// Answers a byte as a number of 64 bits.
-// Example: wide(255) is 255.
-fn wide(x: u8) -> u64
-    ensures { λ r. ⌜ (r ≡ x) × (r < 256) ⌝ }
-{
-    x as u64
-}
-
 // Reads byte i of a name and answers it; 0 past its end.
 // Example: of "ab" name_byte(name, 1) is 98 and name_byte(name, 2) is 0.
 fn name_byte(name: &[u8], i: usize) -> u64
     ensures { λ r. ⌜ (r ≡ getD (now (name .entry)) i 0) × (r < 256) ⌝ }
 {
     if i < name.len() {
-        return wide(name[i]);
+        return words::wide(name[i]);
     }
     0
 }
@@ -180,13 +172,13 @@ fn copy_add(v: &[u8], place: usize, words: &mut [u64; 1792], n: usize)
 // The names are those at the first count places of the table `places`.
 // Example: where places 264 and 271 have "a" and "b", which lead to inodes 3 and 5, clean_names(v, places, 2, words) is 2, and
 // the entries are those of put_add(words, 0, 3, "a") and put_add(words, 1, 5, "b").
-pub fn clean_names(v: &[u8], places: &[u16; 28672], count: usize, words: &mut [u64; 1792]) -> usize
+pub fn clean_names(v: &[u8], places: &[u16; 224], count: usize, words: &mut [u64; 1792]) -> usize
     requires { ⌜ Filled (word (now v)) (length (now v)) count (now places) × (count ≤ 224) × (length (now words) ≡ 1792) ⌝ }
     ensures { λ r. ⌜ Holds (now (words .exit)) r (cleanNames (standing (word (now (v .entry))) (take count (now (places .entry))))) × (r ≡ count) ⌝ }
 {
     let mut i: usize = 0;
     while i < count {
-        let p = names::place(places, i);
+        let p = directory::place(places, i);
         copy_add(v, p, words, i);
         i = i + 1;
     }

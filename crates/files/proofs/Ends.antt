@@ -1,18 +1,22 @@
--- The end of a file: a loop that goes down from n asks of the last of n numbers, and then of those below it.
+-- The end of a file: a loop that goes down from n asks of the last of n numbers, and then of those below it; and a word is 0 exactly if its
+-- eight bytes are, so that bytes are asked by words.
 use Prim.Native.Nat.{ℕ, zero, suc, _+_, _*_, _-_, _/_, _%_, _≤_, _<_}
-use mathlib.Core.Path.{_≡_, sym, _∙_}
-use mathlib.Core.Bool.{Bool, true, false, not, or-true}
+use mathlib.Core.Path.{_≡_, refl, sym, _∙_}
+use mathlib.Core.Bool.{Bool, true, false, not, cond, or-true}
 use mathlib.Core.List.{List}
 use native.Mathlib.Omega.{arith}
+use native.Mathlib.Nat.{add-zero, zero-div}
 use native.Mathlib.Numerals.{sub-one}
 use lib.ListN.{getD}
 use lib.Dec.{eqb}
-use borrow.Author.Tests.{eq-eqb, ne-eqb, le-ltb, lt-ltb}
-use Rattle.model.specs.Words.{Mem, byteAt}
+use borrow.Author.Tests.{eq-eqb, ne-eqb, eqb-true, le-ltb, lt-ltb}
+use Rattle.model.specs.Words.{Mem, word, byteAt}
 use Rattle.model.specs.Lists.{allBelow}
 use Rattle.model.specs.State.{fileByte}
 use Rattle.model.specs.Accept.{endOk}
-use Rattle.model.proofs.Lists.{allBelow-same}
+use Rattle.model.proofs.Tests.{by-bool, same-test}
+use Rattle.model.proofs.Lists.{allBelow-at, allBelow-by, allBelow-same}
+use Rattle.model.proofs.Words.{leFrom-same, byte-word}
 use Rattle.words.proofs.Cond.{asked-true, asked-false}
 use Rattle.files.specs.State.{fileFrom, startsOk, zerosAt}
 
@@ -31,37 +35,92 @@ unfolding allBelow
 below-end f z zero a l = a
 below-end f z (suc n) a l = absurd (omega arith)
 
-module _ (t : List ℕ) (s : ℕ) (z : Bool) (n : ℕ) (a : startsOk t s n ≡ z) where
-  module _ (d : ℕ) (l : 0 < n) (e : d ≡ getD t (n - 1) 0) where
+-- The elements from w on are read, where w is the count of file pages that start below the size s.
+module _ (t : List ℕ) (s : ℕ) (z : Bool) (n w : ℕ) (a : startsOk t s n ≡ z) (q : w ≡ (s + 511) / 512) where
+  module _ (d : ℕ) (l : w < n) (e : d ≡ getD t (n - 1) 0) where
     pub start-free : d ≡ 0 → startsOk t s (n - 1) ≡ z
     unfolding startsOk
-    start-free f = below-next _ z n a l (rw (eq-eqb (getD t (n - 1) 0) 0 (sym e ∙ f)))
+    start-free f = below-next _ z n a (omega arith) (rw (eq-eqb (getD t (n - 1) 0) 0 (sym e ∙ f)))
 
-    pub start-bad : (d ≡ 0 → ⊥) → s ≤ 512 * (n - 1) → false ≡ z
+    pub start-bad : (d ≡ 0 → ⊥) → false ≡ z
     unfolding startsOk
-    start-bad f h = below-not _ z n a l (rw (ne-eqb (getD t (n - 1) 0) 0 (λ y. f (e ∙ y)), le-ltb (512 * (n - 1)) s h))
+    start-bad f =
+        below-not _ z n a (omega arith) (rw (ne-eqb (getD t (n - 1) 0) 0 (λ y. f (e ∙ y)), le-ltb (512 * (n - 1)) s (omega arith)))
 
-  pub start-good : 0 < n → 512 * (n - 1) < s → startsOk t s (n - 1) ≡ z
+  pub start-end : n ≤ w → true ≡ z
   unfolding startsOk
-  start-good l h = below-next _ z n a l (rw (lt-ltb (512 * (n - 1)) s h, or-true))
+  start-end l = sym (allBelow-by n _ (λ i h. rw (lt-ltb (512 * i) s (omega arith), or-true))) ∙ a
 
-  pub start-end : n ≤ 0 → true ≡ z
-  unfolding startsOk
-  start-end l = below-end _ z n a l
-
-module _ (m : Mem) (b : ℕ) (z : Bool) (n : ℕ) (a : zerosAt m b n ≡ z) where
-  module _ (x : ℕ) (l : 0 < n) (e : x ≡ byteAt m (b + (n - 1))) where
-    pub zero-next : x ≡ 0 → zerosAt m b (n - 1) ≡ z
+module _ (f : ℕ → ℕ) (b : ℕ) (z : Bool) (n : ℕ) (a : zerosAt f b n ≡ z) where
+  module _ (x : ℕ) (l : 0 < n) (e : x ≡ f (b + (n - 1))) where
+    pub zero-next : x ≡ 0 → zerosAt f b (n - 1) ≡ z
     unfolding zerosAt
-    zero-next f = below-next _ z n a l (eq-eqb _ 0 (sym e ∙ f))
+    zero-next h = below-next _ z n a l (eq-eqb _ 0 (sym e ∙ h))
 
     pub zero-bad : (x ≡ 0 → ⊥) → false ≡ z
     unfolding zerosAt
-    zero-bad f = below-not _ z n a l (ne-eqb _ 0 (λ y. f (e ∙ y)))
+    zero-bad h = below-not _ z n a l (ne-eqb _ 0 (λ y. h (e ∙ y)))
 
   pub zero-end : n ≤ 0 → true ≡ z
   unfolding zerosAt
   zero-end l = below-end _ z n a l
+
+-- The bytes of a volume v by its words.
+
+-- n numbers behind k others
+zeros-split : (f : ℕ → ℕ) (b k n : ℕ) → zerosAt f b (k + n) ≡ cond (zerosAt f (b + k) n) (zerosAt f b k) false
+unfolding zerosAt allBelow
+zeros-split f b k zero = rw add-zero
+zeros-split f b k (suc n) =
+    let s : k + suc n ≡ suc (k + n) = omega arith in
+    let p : b + k + n ≡ b + (k + n) = omega arith in
+    by-bool (eqb (f (b + (k + n))) 0) (λ e. rw (s, p, e) (zeros-split f b k n)) (λ e. rw (s, p, e))
+
+module _ (v : List ℕ) (small : (i : ℕ) → getD v i 0 < 256) where
+  -- a word is 0 exactly if its eight bytes are
+  zero-word : (w : ℕ) → zerosAt (byteAt (word v)) (8 * w) 8 ≡ eqb (word v w) 0
+  unfolding zerosAt byteAt word
+  zero-word w = same-test _ _ to-word of-word
+    where
+      to-word : zerosAt (byteAt (word v)) (8 * w) 8 ≡ true → eqb (word v w) 0 ≡ true
+      to-word h =
+          eq-eqb (word v w) 0
+          (leFrom-same 8 (λ i. getD v i 0) (λ i. 0) (8 * w)
+          (λ k g l.
+          let j = k - 8 * w in
+          let e : k ≡ 8 * w + j = omega arith in
+          rw e (sym (byte-word v (8 * w + j) small) ∙ eqb-true _ 0 (allBelow-at 8 j (λ i. eqb (byteAt (word v) (8 * w + i)) 0) h (omega arith)))))
+
+      of-word : eqb (word v w) 0 ≡ true → zerosAt (byteAt (word v)) (8 * w) 8 ≡ true
+      of-word h =
+          allBelow-by 8 (λ j. eqb (byteAt (word v) (8 * w + j)) 0)
+          (λ j l. let q : (8 * w + j) / 8 ≡ w = omega arith in eq-eqb (byteAt (word v) (8 * w + j)) 0 (rw (q, eqb-true (word v w) 0 h, zero-div)))
+
+  words-bytes : (w n : ℕ) → zerosAt (byteAt (word v)) (8 * w) (8 * n) ≡ zerosAt (word v) w n
+  unfolding zerosAt allBelow
+  words-bytes w zero = refl
+  words-bytes w (suc n) =
+      let s : 8 * suc n ≡ 8 * n + 8 = omega arith in
+      let p : 8 * w + 8 * n ≡ 8 * (w + n) = omega arith in
+      rw (s, zeros-split (byteAt (word v)) (8 * w) (8 * n) 8, p, zero-word (w + n), words-bytes w n)
+
+  -- k bytes from b on, and n words from w on behind them
+  bytes-then-words : (b k w n : ℕ) → b + k ≡ 8 * w
+      → zerosAt (byteAt (word v)) b (k + 8 * n) ≡ cond (zerosAt (word v) w n) (zerosAt (byteAt (word v)) b k) false
+  bytes-then-words b k w n e = zeros-split (byteAt (word v)) b k (8 * n) ∙ rw (e, words-bytes w n)
+
+  -- c bytes from b on that end where a word ends: f is what the code was told of the words, and r of the bytes before them
+  module _ (b c : ℕ) (e : (b + c) % 8 ≡ 0) (f : Bool) (g : f ≡ zerosAt (word v) ((b + c % 8) / 8) (c / 8)) where
+    parts : zerosAt (byteAt (word v)) b c ≡ cond (zerosAt (word v) ((b + c % 8) / 8) (c / 8)) (zerosAt (byteAt (word v)) b (c % 8)) false
+    parts =
+        let s : c % 8 + 8 * (c / 8) ≡ c = omega arith in
+        rw s at (bytes-then-words b (c % 8) ((b + c % 8) / 8) (c / 8) (omega arith))
+
+    pub words-not : not f ≡ true → false ≡ zerosAt (byteAt (word v)) b c
+    words-not n = rw (parts, asked-false _ f g n)
+
+    pub words-then : (r : Bool) → not f ≡ false → r ≡ zerosAt (byteAt (word v)) b (c % 8) → r ≡ zerosAt (byteAt (word v)) b c
+    words-then r n k = rw (parts, asked-true _ f g n) k
 
 module _ (m : Mem) (t : List ℕ) (s : ℕ) (f : Bool) (e : f ≡ startsOk t s 128) where
   pub end-starts : not f ≡ true → false ≡ endOk m (fileFrom s t)
@@ -78,7 +137,7 @@ module _ (m : Mem) (t : List ℕ) (s : ℕ) (f : Bool) (e : f ≡ startsOk t s 1
       unfolding endOk startsOk
       end-unmapped h = rw (endOk, asked-true (startsOk t s 128) f e n, ne-eqb (s % 512) 0 o, eq-eqb (getD t (s / 512) 0) 0 (sym g ∙ h))
 
-      pub end-zeros : (r : Bool) → (d ≡ 0 → ⊥) → r ≡ zerosAt m (512 * d + s % 512) (512 - s % 512) → r ≡ endOk m (fileFrom s t)
+      pub end-zeros : (r : Bool) → (d ≡ 0 → ⊥) → r ≡ zerosAt (byteAt m) (512 * d + s % 512) (512 - s % 512) → r ≡ endOk m (fileFrom s t)
       unfolding endOk startsOk zerosAt fileByte
       end-zeros r h k =
           let w : eqb (getD t (s / 512) 0) 0 ≡ false = ne-eqb (getD t (s / 512) 0) 0 (λ y. h (g ∙ y)) in

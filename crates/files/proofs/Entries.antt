@@ -13,9 +13,11 @@ use Rattle.model.specs.Entry.{Entry as Full, writeEntry, sizeEntry, addEntry, r
 use Rattle.model.specs.State.{File, fileStep}
 use Rattle.model.proofs.Tests.{within, inside, outside, by-lt, ands}
 use Rattle.model.proofs.Log.Decode.{write-ok}
+use Rattle.log.specs.Entries.{meant}
+use Rattle.log.specs.declared.Name.{Name}
 use Rattle.log.specs.declared.Entry.{Entry}
 use Rattle.log.specs.declared.Entry.the-variants.{Write, SetSize, Add, Remove, None}
-use Rattle.files.specs.State.{fileFrom, filled, nameless, Applied}
+use Rattle.files.specs.State.{fileFrom, filled, Applied}
 use Rattle.files.proofs.Runs.{length-filled, filled-at}
 
 -- A sum that could be too big for its type is tested part by part.
@@ -33,24 +35,24 @@ module _ (a b c : ℕ) where
 -- Whether a file's log may hold an entry.
 
 module _ (P N : ℕ) (e : Entry) where
-  pub ok-write : (f d c s : ℕ) (r : Bool) → e ≡ Write f d c s → r ≡ fileEntryOk P N (writeEntry f d c s) → r ≡ fileEntryOk P N (nameless e)
-  unfolding nameless
+  pub ok-write : (f d c s : ℕ) (r : Bool) → e ≡ Write f d c s → r ≡ fileEntryOk P N (writeEntry f d c s) → r ≡ fileEntryOk P N (meant e)
+  unfolding meant
   ok-write f d c s r h g = rw h g
 
-  pub ok-size : (s : ℕ) → e ≡ SetSize s → leb s 65536 ≡ fileEntryOk P N (nameless e)
-  unfolding nameless fileEntryOk
+  pub ok-size : (s : ℕ) → e ≡ SetSize s → leb s 65536 ≡ fileEntryOk P N (meant e)
+  unfolding meant fileEntryOk
   ok-size s h = rw h
 
-  pub ok-add : (i l : ℕ) → e ≡ Add i l → false ≡ fileEntryOk P N (nameless e)
-  unfolding nameless fileEntryOk
-  ok-add i l h = rw h
+  pub ok-add : (i : ℕ) (n : Name) → e ≡ Add i n → false ≡ fileEntryOk P N (meant e)
+  unfolding meant fileEntryOk
+  ok-add i n h = rw h
 
-  pub ok-remove : (l : ℕ) → e ≡ Remove l → false ≡ fileEntryOk P N (nameless e)
-  unfolding nameless fileEntryOk
-  ok-remove l h = rw h
+  pub ok-remove : (n : Name) → e ≡ Remove n → false ≡ fileEntryOk P N (meant e)
+  unfolding meant fileEntryOk
+  ok-remove n h = rw h
 
-  pub ok-none : e ≡ None → false ≡ fileEntryOk P N (nameless e)
-  unfolding nameless fileEntryOk
+  pub ok-none : e ≡ None → false ≡ fileEntryOk P N (meant e)
+  unfolding meant fileEntryOk
   ok-none h = rw h
 
 -- an entry that passed on a volume would pass on one of the most pages
@@ -73,9 +75,9 @@ passed r P N e g n l = larger P N e l (sym g ∙ not-false r n)
 
 -- What an entry does.
 
-module _ (e : Entry) (ok : fileEntryOk 4096 0 (nameless e) ≡ true) where
+module _ (e : Entry) (ok : fileEntryOk 4096 0 (meant e) ≡ true) where
   write-was : (f d c z : ℕ) → e ≡ Write f d c z → fileEntryOk 4096 0 (writeEntry f d c z) ≡ true
-  unfolding nameless
+  unfolding meant
   write-was f d c z h = rw h at ok
 
   pub run-room : (f d c z : ℕ) → e ≡ Write f d c z → f + c ≤ 128
@@ -87,7 +89,7 @@ module _ (e : Entry) (ok : fileEntryOk 4096 0 (nameless e) ≡ true) where
   run-low f d c z h = let k = write-was f d c z h in leb-true (d + c) 4096 (search ands)
 
   size-low : (z : ℕ) → e ≡ SetSize z → z ≤ 65536
-  unfolding nameless fileEntryOk
+  unfolding meant fileEntryOk
   size-low z h = leb-true z 65536 (rw h at ok)
 
   pub size-fits : (z : ℕ) → e ≡ SetSize z → Fits w64 (z + 511)
@@ -106,7 +108,7 @@ module _ (e : Entry) (ok : fileEntryOk 4096 0 (nameless e) ≡ true) where
         ap f q
 
     pub did-write : (f d c z : ℕ) → e ≡ Write f d c z → u ≡ filled (λ i. d + (i - f)) t f c → Applied s t e z u
-    unfolding nameless fileStep
+    unfolding meant fileStep
     did-write f d c z h g =
         record {
           file = rw h (filled-file z f c (λ i. d + (i - f)) _ g (run-room f d c z h) (λ j. refl));
@@ -114,7 +116,7 @@ module _ (e : Entry) (ok : fileEntryOk 4096 0 (nameless e) ≡ true) where
         }
 
     pub did-size : (z : ℕ) → e ≡ SetSize z → u ≡ filled (λ i. 0) t ((z + 511) / 512) (128 - (z + 511) / 512) → Applied s t e z u
-    unfolding nameless fileStep
+    unfolding meant fileStep
     did-size z h g =
         let b = size-room z h in
         let i = (z + 511) / 512 in
@@ -129,14 +131,14 @@ module _ (e : Entry) (ok : fileEntryOk 4096 0 (nameless e) ≡ true) where
           long = ap length g ∙ length-filled (λ i. 0) n t i ∙ long;
         }
 
-    pub did-add : (i l : ℕ) → e ≡ Add i l → Applied s t e s t
-    unfolding nameless fileStep
-    did-add i l h = record { file = rw h; long = long }
+    pub did-add : (i : ℕ) (n : Name) → e ≡ Add i n → Applied s t e s t
+    unfolding meant fileStep
+    did-add i n h = record { file = rw h; long = long }
 
-    pub did-remove : (l : ℕ) → e ≡ Remove l → Applied s t e s t
-    unfolding nameless fileStep
-    did-remove l h = record { file = rw h; long = long }
+    pub did-remove : (n : Name) → e ≡ Remove n → Applied s t e s t
+    unfolding meant fileStep
+    did-remove n h = record { file = rw h; long = long }
 
     pub did-none : e ≡ None → Applied s t e s t
-    unfolding nameless fileStep
+    unfolding meant fileStep
     did-none h = record { file = rw h; long = long }

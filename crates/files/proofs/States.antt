@@ -1,25 +1,22 @@
 -- A file's state by its inode: the entries that the fold met are those of the model, and a table of zeros is the empty file.
-use Prim.Native.Nat.{ℕ, _*_, _/_, _<_}
-use mathlib.Core.Path.{_≡_, _∙_, ap, fun-ext}
+use Prim.Native.Nat.{ℕ, _+_, _*_, _≤_, _<_}
+use mathlib.Core.Path.{_≡_, sym, _∙_, ap, fun-ext}
 use mathlib.Core.Bool.{Bool, true, false, not}
 use mathlib.Core.List.{List}
 use native.Mathlib.Omega.{arith}
 use lib.ListN.{length, replicate, getD-replicate, length-replicate, List·getD-eq-default}
-use borrow.Author.Tests.{ne-eqb}
+use borrow.Author.Tests.{ne-eqb, not-true, not-false}
 use Rattle.model.specs.Words.{Mem}
-use Rattle.model.specs.Lists.{isSome}
-use Rattle.model.specs.Layout.{headWord, tailWord}
 use Rattle.model.specs.Journal.{view}
-use Rattle.model.specs.Log.{pagesOf, entries}
+use Rattle.model.specs.Log.{entries}
 use Rattle.model.specs.State.{File, emptyFile, fileOf}
 use Rattle.model.specs.Accept.{logOk}
 use Rattle.model.proofs.Tests.{by-lt, no}
 use Rattle.log.specs.Ready.{Ready}
-use Rattle.log.specs.Steps.{startOf, entriesFrom}
-use Rattle.log.proofs.Viewed.{inode-lost, inode-found, start-entries}
+use Rattle.log.specs.Found.{logEntries, Inside, LogOf}
+use Rattle.log.specs.declared.Log.{Log}
 use Rattle.files.specs.State.{fileFrom, Folds, FoldsOver}
 use Rattle.files.specs.declared.Folded.{Folded}
-use Rattle.files.specs.declared.Folded.the-variants.{Bad}
 
 empty-table : (n : ℕ) → fileFrom 0 (replicate n 0) ≡ emptyFile
 unfolding emptyFile
@@ -30,19 +27,24 @@ empty-table n =
 pub zeros-long : (w : List ℕ) → w ≡ replicate 128 0 → length w ≡ 128
 zeros-long w e = ap length e ∙ length-replicate {A = ℕ} 128 0
 
-module _ (m : Mem) (L P N k h t : ℕ) (ready : Ready m L P N) (g : h ≡ view m (headWord k)) (i : t ≡ view m (tailWord k))
-    (r : Bool) (e : r ≡ isSome (pagesOf m P N h t)) where
-  pub not-found : (f : File) (u : List ℕ) → not r ≡ true → Folds (logOk (view m) P N k) f Bad u
+module _ (m : Mem) (L P N k : ℕ) (g : Log) (l : LogOf m L P N k g) where
+  pub not-found : (f : File) (x : ℕ) (u : List ℕ) → not (g .found) ≡ true → Folds (logOk (view m) P N k) f (record { good = false; size = x }) u
   unfolding logOk
-  not-found f u n =
-      let z = inode-lost m L P N k h t ready g i r e n in
-      record { answer = rw z; file = λ y. no (rw z at y) }
+  not-found f x u n = record { good = sym (rw (sym (l .answer) ∙ not-true (g .found) n)); file = λ y. no y }
 
-  pub fold-is : (at : ℕ) (x : Folded) (w u : List ℕ) → not r ≡ false → 0 < k → at ≡ startOf h t → w ≡ replicate 128 0
-      → FoldsOver P N (entriesFrom (7 * P) m at (t / 8)) w x u → Folds (logOk (view m) P N k) (fileOf (view m) P N k) x u
+  pub log-inside : not (g .found) ≡ false → Inside m L g
+  log-inside n = l .inside (not-false (g .found) n)
+
+  pub fold-is : (x : Folded) (w u : List ℕ) → not (g .found) ≡ false → 0 < k → w ≡ replicate 128 0
+      → FoldsOver (g .pages) N (logEntries m g) w x u → Folds (logOk (view m) P N k) (fileOf (view m) P N k) x u
   unfolding logOk fileOf
-  fold-is at x w u n z q v f =
-      let a = start-entries m L P N k h t ready g i r e n at q in
-      let b = inode-found m L P N k h t ready g i r e n in
-      let c : FoldsOver P N (entries (view m) P N k) (replicate 128 0) x u = rw (a, v) at f in
-      rw (ne-eqb k 0 (omega arith), b) (rw (empty-table 128) at c)
+  fold-is x w u n z v f =
+      let y = not-false (g .found) n in
+      let c : FoldsOver P N (entries (view m) P N k) (replicate 128 0) x u = rw (l .entries-are y, v, l .of-pages) at f in
+      rw (ne-eqb k 0 (omega arith), sym (l .answer) ∙ y) (rw (empty-table 128) at c)
+
+pub inode-in : (m : Mem) (L P N k : ℕ) → Ready m L P N → k < N → 64 * k + 576 ≤ L
+inode-in m L P N k r h = let a = r .bytes in let b = r .room in let c = r .eight in omega arith
+
+pub good-size : (ok : Bool) (f : File) (x : Folded) (t : List ℕ) → Folds ok f x t → ok ≡ true → fileFrom (x .size) t ≡ f
+good-size ok f x t h y = h .file (h .good ∙ y)

@@ -2,21 +2,25 @@
 // page. And whether a file ends as an accepted volume has it. v is the volume, k an inode other than the directory.
 ghost use mathlib.Core.Path.{_≡_};
 ghost use mathlib.Core.Bool.{true};
-ghost use Prim.Native.Nat.{_+_, _-_, _*_, _/_, _≤_, _<_};
+ghost use Prim.Native.Nat.{_+_, _-_, _*_, _/_, _%_, _≤_, _<_};
 ghost use lib.ListN.{length, set, replicate, getD};
-ghost use Rattle.model.specs.Words.{word};
+ghost use Rattle.model.specs.Words.{word, byteAt};
 ghost use Rattle.model.specs.Journal.{view};
 ghost use Rattle.model.specs.Entry.{writeEntry, fileEntryOk};
 ghost use Rattle.model.specs.State.{fileOf};
 ghost use Rattle.model.specs.Accept.{logOk, endOk};
+ghost use Rattle.log.specs.Entries.{meant};
 ghost use Rattle.log.specs.Ready.{Ready};
-ghost use Rattle.log.specs.Steps.{entriesFrom, within};
-ghost use Rattle.files.specs.State.{fileFrom, filled, nameless, Applied, Folds, FoldsOver, startsOk, zerosAt};
+ghost use Rattle.log.specs.Found.{logEntries, Inside};
+ghost use Rattle.files.specs.State.{fileFrom, filled, Applied, Folds, FoldsOver, startsOk, zerosAt};
+use log::Cursor;
+use log::Entry;
+use log::Log;
 
-// What a log comes to: the file's size, its pages being in the lent table, or that no file has such a log.
-pub enum Folded {
-    Size(u64),
-    Bad,
+// What a log comes to: whether a file may have it and, if so, the file's size; its pages are then in the lent table.
+pub struct Folded {
+    pub good: bool,
+    pub size: u64,
 }
 
 // Stores x in element i of the table. Answers nothing.
@@ -100,33 +104,33 @@ fn run_ok(file: u64, page: u64, count: u64, size: u64, pages: u64, inodes: u64) 
 }
 
 // Answers whether a file's log may hold an entry.
-// Example: entry_ok(log::Entry::SetSize(65536), 64, 8) is true, and entry_ok(log::Entry::Remove(3), 64, 8) is false.
-fn entry_ok(e: log::Entry, pages: usize, inodes: usize) -> bool
-    ensures { λ r. ⌜ r ≡ fileEntryOk pages inodes (nameless e) ⌝ }
+// Example: entry_ok(Entry::SetSize(65536), 64, 8) is true, and entry_ok(Entry::None, 64, 8) is false.
+fn entry_ok(e: Entry, pages: usize, inodes: usize) -> bool
+    ensures { λ r. ⌜ r ≡ fileEntryOk pages inodes (meant e) ⌝ }
 {
     match e {
-        log::Entry::Write {
+        Entry::Write {
             file,
             page,
             count,
             size,
         } => run_ok(file, page, count, size, pages as u64, inodes as u64),
-        log::Entry::SetSize(size) => size <= 65536,
-        log::Entry::Add { inode, len } => false,
-        log::Entry::Remove(len) => false,
-        log::Entry::None => false,
+        Entry::SetSize(size) => size <= 65536,
+        Entry::Add { inode, name } => false,
+        Entry::Remove(name) => false,
+        Entry::None => false,
     }
 }
 
 // Does to the table what an entry says, and answers the size after it. The entry is one that the log of a file may hold,
 // on a volume of the most pages.
-// Example: apply(log::Entry::SetSize(700), 1536, table) unmaps the file pages from 2 on and answers 700.
-fn apply(e: log::Entry, size: u64, table: &mut [u64; 128]) -> u64
-    requires { ⌜ (fileEntryOk 4096 0 (nameless e) ≡ true) × (length (now table) ≡ 128) ⌝ }
+// Example: apply(Entry::SetSize(700), 1536, table) unmaps the file pages from 2 on and answers 700.
+fn apply(e: Entry, size: u64, table: &mut [u64; 128]) -> u64
+    requires { ⌜ (fileEntryOk 4096 0 (meant e) ≡ true) × (length (now table) ≡ 128) ⌝ }
     ensures { λ r. ⌜ Applied size (now (table .entry)) e r (now (table .exit)) ⌝ }
 {
     match e {
-        log::Entry::Write {
+        Entry::Write {
             file,
             page,
             count,
@@ -135,92 +139,124 @@ fn apply(e: log::Entry, size: u64, table: &mut [u64; 128]) -> u64
             map_run(table, file as usize, page, count as usize);
             end
         }
-        log::Entry::SetSize(end) => {
+        Entry::SetSize(end) => {
             let from = (end + 511) / 512;
             unmap_from(table, from as usize);
             end
         }
-        log::Entry::Add { inode, len } => size,
-        log::Entry::Remove(len) => size,
-        log::Entry::None => size,
+        Entry::Add { inode, name } => size,
+        Entry::Remove(name) => size,
+        Entry::None => size,
     }
 }
 
-// Does to the table what the entries from a cursor up to a log's end say, and answers the size after them, or Bad where
-// one of them is none that a file's log may hold.
-// Example: where a set size of 700 stands at word 640, fold_file(v, log::Cursor { at: 640 }, 648, 64, 8, table) is Folded::Size(700).
-fn fold_file(
-    v: &[u8],
-    from: log::Cursor,
-    end: usize,
-    pages: usize,
-    inodes: usize,
-    table: &mut [u64; 128],
-) -> Folded
-    requires { ⌜ (within (7 * pages) (word (now v)) pages (from .at) end ≡ true)
-        × (512 * pages ≤ length (now v)) × (pages ≤ 4096) × (length (now table) ≡ 128) ⌝ }
-    ensures { λ r. ⌜ FoldsOver pages inodes (entriesFrom (7 * pages) (word (now (v .entry))) (from .at) end) (now (table .entry)) r (now (table .exit)) ⌝ }
+// Does to the table what the entries of a log say, and answers the size after them; not good where one of them is none that a file's
+// log may hold.
+// Example: where a set size of 700 is the only entry of the log, fold_file(v, log, 8, table) is good and has size 700.
+fn fold_file(v: &[u8], log: Log, inodes: usize, table: &mut [u64; 128]) -> Folded
+    requires { ⌜ Inside (word (now v)) (length (now v)) log × (length (now table) ≡ 128) ⌝ }
+    ensures { λ r. ⌜ FoldsOver (log .pages) inodes (logEntries (word (now (v .entry))) log) (now (table .entry)) r (now (table .exit)) ⌝ }
 {
-    let mut c = from;
+    let end = log.end;
+    let pages = log.pages;
+    let mut c = Cursor { at: log.start };
     let mut size: u64 = 0;
     let mut left = 7 * pages;
     while 0 < left {
         let at = c.at;
         if at == end {
-            return Folded::Size(size);
+            return Folded { good: true, size };
         }
         let s = log::log_step(v, c);
         let e = s.entry;
         if !entry_ok(e, pages, inodes) {
-            return Folded::Bad;
+            return Folded { good: false, size };
         }
         size = apply(e, size, table);
         c = s.next;
         left = left - 1;
     }
-    Folded::Size(size)
+    Folded { good: true, size }
 }
 
-// Reads the log of file k into a table of zeros, and answers the file's size, or Bad where the log is not as an accepted
-// volume has it.
-// Example: where the tail of inode 3 is 0, file_state(v, 3, 64, 8, table) is Folded::Size(0) and leaves the table.
+// Reads the log of file k into a table of zeros, and answers the file's size; not good where the log is not as an accepted volume has it.
+// Example: where the tail of inode 3 is 0, file_state(v, 3, 64, 8, table) is good, has size 0 and leaves the table.
 pub fn file_state(v: &[u8], k: usize, pages: usize, inodes: usize, table: &mut [u64; 128]) -> Folded
     requires { ⌜ Ready (word (now v)) (length (now v)) pages inodes × (0 < k) × (k < inodes) × (now table ≡ replicate 128 0) ⌝ }
     ensures { λ r. ⌜ Folds (logOk (view (word (now (v .entry)))) pages inodes k)
         (fileOf (view (word (now (v .entry)))) pages inodes k) r (now (table .exit)) ⌝ }
 {
-    let head = journal::viewed(v, 65 + 8 * k) as usize;
-    let tail = journal::viewed(v, 66 + 8 * k) as usize;
-    if !log::log_found(v, head, tail, pages, inodes) {
-        return Folded::Bad;
+    let log = log::find_log(v, k, pages, inodes);
+    if !log.found {
+        return Folded {
+            good: false,
+            size: 0,
+        };
     }
-    let from = log::log_start(head, tail);
-    fold_file(v, from, tail / 8, pages, inodes, table)
+    fold_file(v, log, inodes, table)
 }
 
-// Answers whether every mapped page starts below the size.
+// Reads the log of file k, which is known to be as an accepted volume has it, into a table of zeros, and answers the file's size.
+// Example: where file 3 has 514 bytes on pages 3 and 4, judged_file(v, 3, 64, 8, table) is 514, and table starts with 3, 4 and 0.
+pub fn judged_file(v: &[u8], k: usize, pages: usize, inodes: usize, table: &mut [u64; 128]) -> u64
+    requires { ⌜ Ready (word (now v)) (length (now v)) pages inodes × (0 < k) × (k < inodes) × (now table ≡ replicate 128 0)
+        × (logOk (view (word (now v))) pages inodes k ≡ true) ⌝ }
+    ensures { λ r. ⌜ fileFrom r (now (table .exit)) ≡ fileOf (view (word (now (v .entry)))) pages inodes k ⌝ }
+{
+    let state = file_state(v, k, pages, inodes, table);
+    state.size
+}
+
+// Answers how many file pages start below the size.
+// Example: pages_below(512) is 1 and pages_below(513) is 2.
+pub fn pages_below(size: usize) -> usize
+    requires { ⌜ size ≤ 65536 ⌝ }
+    ensures { λ r. ⌜ (r ≡ (size + 511) / 512) × (r ≤ 128) ⌝ }
+{
+    (size + 511) / 512
+}
+
+// Answers whether every mapped page starts below the size: the table's elements from pages_below(size) on must be 0, and no
+// others are read.
 // Example: where elements 0 and 1 alone are not 0, starts_ok(table, 513) is true and starts_ok(table, 512) is false.
 fn starts_ok(table: &[u64; 128], size: usize) -> bool
+    requires { ⌜ size ≤ 65536 ⌝ }
     ensures { λ r. ⌜ r ≡ startsOk (now (table .entry)) size 128 ⌝ }
 {
+    let low = pages_below(size);
     let mut n: usize = 128;
-    while 0 < n {
+    while low < n {
         n = n - 1;
         let d = get(table, n);
         if d != 0 {
-            if size <= 512 * n {
-                return false;
-            }
+            return false;
+        }
+    }
+    true
+}
+
+// Answers whether count words from word w on are zero.
+// Example: of the words 1, 0, 0, 7 zero_words(v, 1, 2) is true and zero_words(v, 1, 3) is false.
+fn zero_words(v: &[u8], w: usize, count: usize) -> bool
+    requires { ⌜ 8 * (w + count) ≤ length (now v) ⌝ }
+    ensures { λ r. ⌜ r ≡ zerosAt (word (now (v .entry))) w count ⌝ }
+{
+    let mut n = count;
+    while 0 < n {
+        n = n - 1;
+        let x = words::word_at(v, w + n);
+        if x != 0 {
+            return false;
         }
     }
     true
 }
 
 // Answers whether count bytes from byte b on are zero.
-// Example: of the bytes 1, 0, 0, 7 zeros_at(v, 1, 2) is true and zeros_at(v, 1, 3) is false.
-fn zeros_at(v: &[u8], b: usize, count: usize) -> bool
+// Example: of the bytes 1, 0, 0, 7 zero_bytes(v, 1, 2) is true and zero_bytes(v, 1, 3) is false.
+fn zero_bytes(v: &[u8], b: usize, count: usize) -> bool
     requires { ⌜ b + count ≤ length (now v) ⌝ }
-    ensures { λ r. ⌜ r ≡ zerosAt (word (now (v .entry))) b count ⌝ }
+    ensures { λ r. ⌜ r ≡ zerosAt (byteAt (word (now (v .entry)))) b count ⌝ }
 {
     let mut n = count;
     while 0 < n {
@@ -231,6 +267,19 @@ fn zeros_at(v: &[u8], b: usize, count: usize) -> bool
         }
     }
     true
+}
+
+// Answers whether count bytes from byte b on are zero, which end where a word ends: the whole words among them are read as words.
+// Example: of 24 bytes that are 0 but for byte 9, zeros_at(v, 10, 14) is true and zeros_at(v, 9, 15) is false.
+fn zeros_at(v: &[u8], b: usize, count: usize) -> bool
+    requires { ⌜ (b + count ≤ length (now v)) × ((b + count) % 8 ≡ 0) ⌝ }
+    ensures { λ r. ⌜ r ≡ zerosAt (byteAt (word (now (v .entry)))) b count ⌝ }
+{
+    let left = count % 8;
+    if !zero_words(v, (b + left) / 8, count / 8) {
+        return false;
+    }
+    zero_bytes(v, b, left)
 }
 
 // Answers whether a file ends as an accepted volume has it: "no mapped page starts at or after the size, and a mapped

@@ -6,8 +6,7 @@ use mathlib.Core.List.{List, [], _∷_, _++_}
 use mathlib.Core.Option.{Option, some}
 use native.Mathlib.Omega.{arith}
 use lib.ListN.{length}
-use denote.Enum.Declared.{tagOf}
-use types.Run.{OneOf, miss}
+use types.Run.{miss}
 use Rattle.model.specs.Words.{word}
 use Rattle.model.specs.Journal.{dequeueWord, enqueueWord, journalOk, isOpen}
 use Rattle.model.specs.Accept.{accepted}
@@ -18,7 +17,7 @@ use Rattle.model.proofs.Tests.{by-bool, and-left}
 use Rattle.model.proofs.Crash.Journal.{journal-parts}
 use Rattle.model.proofs.Crash.Landing.{volume-parts, sizes-parts}
 use Rattle.log.specs.Ready.{Ready}
-use Rattle.names.specs.Places.{Filled}
+use Rattle.directory.specs.Places.{Filled}
 use Rattle.names.specs.Inodes.{Readable}
 use Rattle.names.proofs.Judged.{readable}
 use Rattle.survey.proofs.Facts.{volume-long, journal-ready}
@@ -26,15 +25,8 @@ use Rattle.answer.specs.Meaning.{meaning, numbered}
 use Rattle.answer.specs.declared.Answer.{Answer}
 use Rattle.answer.specs.declared.Answer.the-variants.{Done, Number, ShortMemory, NoVolume, Damaged, JournalOpen, BadName, NotThere}
 use Rattle.answer.specs.declared.Answer.the-variants.{Taken, LongWrite, PastTheEnd, NoInode, DirectoryFull, NoSpace, BadList}
-use Rattle.answer.proofs.Answer.{the-type}
+use Rattle.answer.proofs.Codes.{others, NoNumber}
 use Rattle.gate.specs.Gated.{Tables, Gated}
-
--- What the code knows of an answer that is not `Number`: its place among the cases.
-abbrev others : List ℕ
-others = 0 ∷ 2 ∷ 3 ∷ 4 ∷ 5 ∷ 6 ∷ 7 ∷ 8 ∷ 9 ∷ 10 ∷ 11 ∷ 12 ∷ 13 ∷ 14 ∷ []
-
-abbrev pub NoNumber : Answer → Type 0
-NoNumber r = OneOf others (tagOf the-type r)
 
 -- a refusal is no done answer
 clash : {A X : Type 0} (k : ℕ) (a : A) → refused k ≡ done a → X
@@ -94,7 +86,7 @@ pub same-number : (cs : Checks) (a n : ℕ) → done (some n) ≡ numbered (firs
 same-number cs a n h = let e = rw (none-refuses cs a n h (done a)) at h in cc
 
 -- r is what the gate answered of v, and rest are the call's own checks
-module _ (v : List ℕ) (cs : Checks) (r : Answer) (places marks : List ℕ) (g : Gated v cs r places marks) where
+module _ (v : List ℕ) {d : ℕ} (cs : Checks) (r : Answer) (places marks : List ℕ) (g : Gated v d cs r places marks) where
   pub gate-refused : {B : Type 0} (f : B → Option ℕ) (rest : Checks) (y : model.Answer B) → NoNumber r
       → meaning r ≡ mapAnswer f (firstRefusal (cs ++ rest) y)
   gate-refused f rest y o = rw (checks-after cs rest y) (same-refusal r cs _ (g .answer) f (firstRefusal rest y) o)
@@ -105,8 +97,8 @@ module _ (v : List ℕ) (cs : Checks) (r : Answer) (places marks : List ℕ) (g 
 
 -- What the code may go on with: the volume is one, its sizes are right and its journal words are positions. cs are the checks that were
 -- asked, and r is the number that they came to.
-module _ (v : List ℕ) (cs : Checks) (r : Answer) (places marks : List ℕ) (g : Gated v cs r places marks) (n : ℕ) (e : r ≡ Number n) where
-  tables : Tables v n places marks
+module _ (v : List ℕ) {d : ℕ} (cs : Checks) (r : Answer) (places marks : List ℕ) (g : Gated v d cs r places marks) (n : ℕ) (e : r ≡ Number n) where
+  tables : Tables v d n places marks
   tables = g .tables n e
 
   journal-good : journalOk (word v) (word v 1) ≡ true
@@ -142,7 +134,7 @@ module _ (v : List ℕ) (cs : Checks) (r : Answer) (places marks : List ℕ) (g 
   gate-filled = tables .filled
 
 -- behind all three checks the journal is closed
-pub gate-closed : (v : List ℕ) (r : Answer) (places marks : List ℕ) → Gated v (closedChecks (length v) (word v)) r places marks → (n : ℕ) → r ≡ Number n
+pub gate-closed : (v : List ℕ) {d : ℕ} (r : Answer) (places marks : List ℕ) → Gated v d (closedChecks (length v) (word v)) r places marks → (n : ℕ) → r ≡ Number n
     → isOpen (word v) ≡ false
 unfolding closedChecks
 gate-closed v r places marks g n e = last-passes (volumeChecks (length v) (word v)) (isOpen (word v)) journalOpen _ n (rw e at (g .answer))

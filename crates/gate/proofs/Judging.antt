@@ -1,6 +1,6 @@
 -- The judge's answer is the second check and its count that of the directory's names; an open journal is the third check.
 use Prim.Native.Nat.{ℕ, _≤_, _<_}
-use mathlib.Core.Path.{_≡_, refl, sym, _∙_}
+use mathlib.Core.Path.{_≡_, sym, _∙_}
 use mathlib.Core.Bool.{Bool, true, false, not}
 use mathlib.Core.List.{List, [], _∷_}
 use mathlib.Core.Option.{some}
@@ -11,18 +11,18 @@ use Rattle.model.specs.Words.{word}
 use Rattle.model.specs.Journal.{isOpen}
 use Rattle.model.specs.Answer.{done, firstRefusal, journalOpen}
 use Rattle.model.specs.Public.{isVolume, volumeChecks, closedChecks}
-use Rattle.names.proofs.Table.{standing-length}
+use Rattle.directory.proofs.Table.{standing-length}
 use Rattle.survey.specs.declared.Found.{Found}
 use Rattle.survey.specs.Surveyed.{Surveyed}
-use Rattle.answer.specs.Meaning.{meaning, numbered}
 use Rattle.answer.specs.declared.Answer.{Answer}
 use Rattle.answer.specs.declared.Answer.the-variants.{Number, ShortMemory, NoVolume, Damaged, JournalOpen}
-use Rattle.gate.specs.Gated.{rootNames, fillChecks, Tables, Gated}
-use Rattle.gate.proofs.Gates.{NoNumber, gate-refused, gate-passed, same-number}
+use Rattle.gate.specs.Gated.{namesIn, fillChecks, Tables, Gated}
+use Rattle.gate.proofs.Gates.{gate-refused, gate-passed, same-number}
+use Rattle.answer.proofs.Codes.{NoNumber}
 
 -- f is what `is_volume` answered of v
-module _ (v : List ℕ) (f : Bool) (a : f ≡ isVolume (length v) (word v)) where
-  pub judged-none : (places marks : List ℕ) → not f ≡ true → Gated v (volumeChecks (length v) (word v)) NoVolume places marks
+module _ (v : List ℕ) (d : ℕ) (f : Bool) (a : f ≡ isVolume (length v) (word v)) where
+  pub judged-none : (places marks : List ℕ) → not f ≡ true → Gated v d (volumeChecks (length v) (word v)) NoVolume places marks
   unfolding volumeChecks
   judged-none places marks h =
       record {
@@ -33,8 +33,8 @@ module _ (v : List ℕ) (f : Bool) (a : f ≡ isVolume (length v) (word v)) wher
   pub judged-is : not f ≡ false → isVolume (length v) (word v) ≡ true
   judged-is h = sym a ∙ not-false f h
 
-  module _ (h : not f ≡ false) (r : Found) (places marks : List ℕ) (s : Surveyed (word v) (length v) r places marks) where
-    pub judged-damaged : not (r .accepted) ≡ true → Gated v (volumeChecks (length v) (word v)) Damaged places marks
+  module _ (h : not f ≡ false) (r : Found) (places marks : List ℕ) (s : Surveyed (word v) (length v) d r places marks) where
+    pub judged-damaged : not (r .accepted) ≡ true → Gated v d (volumeChecks (length v) (word v)) Damaged places marks
     unfolding volumeChecks
     judged-damaged y =
         record {
@@ -42,7 +42,7 @@ module _ (v : List ℕ) (f : Bool) (a : f ≡ isVolume (length v) (word v)) wher
           tables = λ n e. let q : _≡_ {A = ℕ} 0 1 = cc in absurd (omega arith);
         }
 
-    found : r .accepted ≡ true → Tables v (r .names) places marks
+    found : r .accepted ≡ true → Tables v d (r .names) places marks
     found y =
         record {
           volume = judged-is h;
@@ -52,7 +52,7 @@ module _ (v : List ℕ) (f : Bool) (a : f ≡ isVolume (length v) (word v)) wher
           served = s .served y;
         }
 
-    pub judged-good : not (r .accepted) ≡ false → Gated v (volumeChecks (length v) (word v)) (Number (r .names)) places marks
+    pub judged-good : not (r .accepted) ≡ false → Gated v d (volumeChecks (length v) (word v)) (Number (r .names)) places marks
     unfolding volumeChecks
     judged-good y =
         let z = not-false (r .accepted) y in
@@ -62,8 +62,8 @@ module _ (v : List ℕ) (f : Bool) (a : f ≡ isVolume (length v) (word v)) wher
         }
 
 -- g is what `judged` answered and left, o what `is_open` answered
-module _ (v : List ℕ) (r : Answer) (places marks : List ℕ) (g : Gated v (volumeChecks (length v) (word v)) r places marks) where
-  pub closed-refused : NoNumber r → Gated v (closedChecks (length v) (word v)) r places marks
+module _ (v : List ℕ) (d : ℕ) (r : Answer) (places marks : List ℕ) (g : Gated v d (volumeChecks (length v) (word v)) r places marks) where
+  pub closed-refused : NoNumber r → Gated v d (closedChecks (length v) (word v)) r places marks
   unfolding closedChecks
   closed-refused o =
       record {
@@ -72,18 +72,18 @@ module _ (v : List ℕ) (r : Answer) (places marks : List ℕ) (g : Gated v (vol
       }
 
   module _ (n : ℕ) (e : r ≡ Number n) (o : Bool) (b : o ≡ isOpen (word v)) where
-    passed : firstRefusal (closedChecks (length v) (word v)) (done (length (rootNames v))) ≡ firstRefusal ((isOpen (word v), journalOpen) ∷ []) (done (length (rootNames v)))
+    passed : firstRefusal (closedChecks (length v) (word v)) (done (length (namesIn v d))) ≡ firstRefusal ((isOpen (word v), journalOpen) ∷ []) (done (length (namesIn v d)))
     unfolding closedChecks
     passed = gate-passed v _ r places marks g n e _ _
 
-    pub closed-open : o ≡ true → Gated v (closedChecks (length v) (word v)) JournalOpen places marks
+    pub closed-open : o ≡ true → Gated v d (closedChecks (length v) (word v)) JournalOpen places marks
     closed-open y =
         record {
           answer = rw (passed, ← b, y);
           tables = λ k z. let q : _≡_ {A = ℕ} 0 1 = cc in absurd (omega arith);
         }
 
-    pub closed-is : o ≡ false → Gated v (closedChecks (length v) (word v)) (Number n) places marks
+    pub closed-is : o ≡ false → Gated v d (closedChecks (length v) (word v)) (Number n) places marks
     closed-is y =
         record {
           answer = rw (passed, ← b, y, same-number (volumeChecks (length v) (word v)) _ n (rw e at (g .answer)));
@@ -91,8 +91,8 @@ module _ (v : List ℕ) (r : Answer) (places marks : List ℕ) (g : Gated v (vol
         }
 
 -- A list to be filled: l is its length, and g what `closed` answered and left of v.
-module _ (v : List ℕ) (l : ℕ) where
-  pub short-list : (places marks : List ℕ) → l < 4096 → Gated v (fillChecks (length v) (word v) l) ShortMemory places marks
+module _ (v : List ℕ) (d l : ℕ) where
+  pub short-list : (places marks : List ℕ) → l < 4096 → Gated v d (fillChecks (length v) (word v) l) ShortMemory places marks
   unfolding fillChecks
   short-list places marks h =
       record {
@@ -100,7 +100,7 @@ module _ (v : List ℕ) (l : ℕ) where
         tables = λ n e. let q : _≡_ {A = ℕ} 0 1 = cc in absurd (omega arith);
       }
 
-  pub long-list : (r : Answer) (places marks : List ℕ) → 4096 ≤ l → Gated v (closedChecks (length v) (word v)) r places marks
-      → Gated v (fillChecks (length v) (word v) l) r places marks
+  pub long-list : (r : Answer) (places marks : List ℕ) → 4096 ≤ l → Gated v d (closedChecks (length v) (word v)) r places marks
+      → Gated v d (fillChecks (length v) (word v) l) r places marks
   unfolding fillChecks
   long-list r places marks h g = record { answer = rw (le-ltb l 4096 h) (g .answer); tables = g .tables }

@@ -1,14 +1,14 @@
 -- For the calls that fill a store list, recover apart: the gate's checks come first, then the call's own; the words filled are those of its groups.
 use Prim.Native.Nat.{ℕ, _*_, _≤_}
-use mathlib.Core.Path.{_≡_, refl, sym, _∙_, ap}
+use mathlib.Core.Path.{_≡_, refl, sym, _∙_}
 use mathlib.Core.Bool.{true}
-use mathlib.Core.List.{List, [], _∷_, _++_}
+use mathlib.Core.List.{List, _++_}
 use mathlib.Core.Option.{Option, some}
 use native.Mathlib.Omega.{arith}
-use lib.ListN.{length, drop}
+use lib.ListN.{length}
 use Rattle.model.specs.Words.{word}
 use Rattle.model.specs.Stores.{storeList}
-use Rattle.model.specs.FileMap.{Call, create, link, unlink, rename, write, setSize, clean, recover}
+use Rattle.model.specs.FileMap.{Call}
 use Rattle.model.specs.Answer as model
 use Rattle.model.specs.Answer.{refused, done, Checks, firstRefusal, mapAnswer, filledFrom}
 use Rattle.model.specs.Calls.{checks, groups}
@@ -19,7 +19,8 @@ use Rattle.answer.specs.Meaning.{meaning, numbered}
 use Rattle.answer.specs.declared.Answer.{Answer}
 use Rattle.answer.specs.declared.Answer.the-variants.{Number}
 use Rattle.gate.specs.Gated.{fillChecks, Gated}
-use Rattle.gate.proofs.Gates.{NoNumber, refusal-of, checks-after, same-refusal, none-refuses, gate-refused, gate-passed}
+use Rattle.gate.proofs.Gates.{refusal-of, checks-after, same-refusal, none-refuses, gate-refused, gate-passed}
+use Rattle.answer.proofs.Codes.{NoNumber}
 
 -- the words that call c fills on the volume v
 abbrev pub filledWords : List ℕ → Call → List ℕ
@@ -48,8 +49,8 @@ unfolding callAnswer callList
 told v l c k e = (rw (← e), rw (← e))
 
 -- r, places and marks are what the gate answered and left
-module _ (v l : List ℕ) (c : Call) (n : needsClosed c ≡ true) (r : Answer) (places marks : List ℕ)
-    (g : Gated v (fillChecks (length v) (word v) (length l)) r places marks) where
+module _ (v l : List ℕ) {d : ℕ} (c : Call) (n : needsClosed c ≡ true) (r : Answer) (places marks : List ℕ)
+    (g : Gated v d (fillChecks (length v) (word v) (length l)) r places marks) where
   pub fill-refused : NoNumber r → (meaning r ≡ numbered (callAnswer v l c)) × (l ≡ callList v l c)
   fill-refused o =
       let f : List ℕ → Option ℕ = λ x. some (length x) in

@@ -12,29 +12,32 @@ use Rattle.model.specs.State.{Names, namesOf}
 use Rattle.model.specs.Accept.{accepted}
 use Rattle.model.specs.Answer.{done, Checks, firstRefusal, shortMemory}
 use Rattle.model.specs.Public.{isVolume, closedChecks}
-use Rattle.names.specs.Places.{standing, Filled}
+use Rattle.directory.specs.Places.{standing, Filled}
 use Rattle.inodes.specs.Judged.{Served}
 use Rattle.answer.specs.Meaning.{meaning, numbered}
 use Rattle.answer.specs.declared.Answer.{Answer}
 use Rattle.answer.specs.declared.Answer.the-variants.{Number}
 
--- the names of the directory of the volume v
+-- the names of directory d of the volume v; those of inode 0
+abbrev pub namesIn : List ℕ → ℕ → Names
+namesIn v d = namesOf (view (word v)) (word v 0) (word v 1) d
+
 abbrev pub rootNames : List ℕ → Names
-rootNames v = namesOf (view (word v)) (word v 0) (word v 1) root
+rootNames v = namesIn v root
 
 -- 1 to 4 of a call that fills a store list of l words: every such call but recover
 unfoldable pub fillChecks : ℕ → Mem → ℕ → Checks
 fillChecks len m l = (ltb l listWords, shortMemory) ∷ closedChecks len m
 
--- v is an accepted volume with n names; the first places are those of its names, and the marks those of its pages in use.
-pub record Tables (v : List ℕ) (n : ℕ) (places marks : List ℕ) : Type 0 where
+-- v is an accepted volume whose directory d has n names; the first places are those of these names, and the marks those of its pages in use.
+pub record Tables (v : List ℕ) (d n : ℕ) (places marks : List ℕ) : Type 0 where
   pub volume : isVolume (length v) (word v) ≡ true
   pub good : accepted (word v) (word v 0) (word v 1) ≡ true
   pub filled : Filled (word v) (length v) n places
-  pub names : standing (word v) (take n places) ≡ rootNames v
+  pub names : standing (word v) (take n places) ≡ namesIn v d
   pub served : Served (view (word v)) (word v 0) (word v 1) true marks
 
--- r: the number of the first check that holds, or the count of names where none does
-pub record Gated (v : List ℕ) (checks : Checks) (r : Answer) (places marks : List ℕ) : Type 0 where
-  pub answer : meaning r ≡ numbered (firstRefusal checks (done (length (rootNames v))))
-  pub tables : (n : ℕ) → r ≡ Number n → Tables v n places marks
+-- r: the number of the first check that holds, or the count of directory d's names where none does
+pub record Gated (v : List ℕ) (d : ℕ) (checks : Checks) (r : Answer) (places marks : List ℕ) : Type 0 where
+  pub answer : meaning r ≡ numbered (firstRefusal checks (done (length (namesIn v d))))
+  pub tables : (n : ℕ) → r ≡ Number n → Tables v d n places marks

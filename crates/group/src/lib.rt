@@ -7,13 +7,13 @@
 // - fresh: the words of fresh data pages.
 // Where two parts of a group have a word, the part that comes first counts.
 ghost use mathlib.Core.Path.{_≡_};
-ghost use Prim.Native.Nat.{_+_, _*_, _/_, _≤_, _<_, max};
+ghost use Prim.Native.Nat.{_+_, _*_, _-_, _/_, _≤_, _<_, max};
 ghost use lib.ListN.{length, getD};
 ghost use Rattle.model.specs.Lists.{indexOf};
 ghost use Rattle.model.specs.Stores.{run, listed};
 ghost use Rattle.stores.specs.Emitted.{Emitted};
 ghost use Rattle.group.specs.Plan.{asWord, element, part, singleStores, logStores, restStores, planStores, LogFits, Fits, setPair};
-ghost use Rattle.group.specs.Next.{nearer, nextOf, singlePage, nextInRun, nextPage};
+ghost use Rattle.group.specs.Next.{nearer, nextOf, singleWord, lowestFrom, logWord, nextWord};
 
 // What a group does with a word: it leaves it, or stores a value in it.
 pub enum Word {
@@ -48,8 +48,14 @@ const PAGE_WORDS: usize = 64;
 // The word of a log page that holds the link: the first of its footer.
 const FOOTER: usize = 56;
 
+// The words of a log page up to the end of its link.
+const LINK_END: usize = 57;
+
 // The entries of a log page.
 const PAGE_ENTRIES: usize = 7;
+
+// The pages that a volume has at most.
+const MOST_PAGES: u64 = 4096;
 
 // Makes single n the pair of index i and value x. Answers nothing.
 // Example: put_single(singles, 3, 66, 1088) makes elements 6 and 7 66 and 1088.
@@ -239,7 +245,7 @@ fn planned(
     }
 }
 
-// Answers the nearer to p of two pages: q, unless it lies before p or at or past r; else r.
+// Answers the nearer to p of two words: q, unless it lies before p or at or past r; else r.
 // Example: nearer(3, 5, 9) is 5; nearer(3, 2, 9) and nearer(3, 12, 9) are 9.
 fn nearer(p: usize, q: usize, r: usize) -> usize
     ensures { λ x. ⌜ x ≡ nearer p q r ⌝ }
@@ -253,48 +259,20 @@ fn nearer(p: usize, q: usize, r: usize) -> usize
     r
 }
 
-// Answers the page in which the word of single j lies.
-// Example: where single 3 is the pair 66, 1088, page_of_single(singles, 3) is 1.
-fn page_of_single(singles: &[u64; 32], j: usize) -> usize
-    requires { ⌜ j < 16 ⌝ }
-    ensures { λ r. ⌜ r ≡ singlePage (now (singles .entry)) j ⌝ }
-{
-    let w = single(singles, 2 * j) as usize;
-    w / PAGE_WORDS
-}
-
-// Answers the lowest page from p on in which one of n singles from single k on lies; r where there is none below r.
-// Example: where singles 0 and 1 have the words 16 and 72, next_single(singles, 0, 2, 1, 16) is 1 and
-// next_single(singles, 0, 2, 2, 16) is 16.
-fn next_single(singles: &[u64; 32], k: usize, n: usize, p: usize, r: usize) -> usize
+// Answers the lowest word from w on of n singles from single k on; r where there is none below r.
+// Example: where singles 0 and 1 have the words 16 and 72, next_in_singles(singles, 0, 2, 17, 128) is 72 and
+// next_in_singles(singles, 0, 2, 73, 128) is 128.
+fn next_in_singles(singles: &[u64; 32], k: usize, n: usize, w: usize, r: usize) -> usize
     requires { ⌜ k + n ≤ 16 ⌝ }
-    ensures { λ x. ⌜ x ≡ nextOf (singlePage (now (singles .entry))) k n p r ⌝ }
+    ensures { λ x. ⌜ x ≡ nextOf (singleWord (now (singles .entry))) k n w r ⌝ }
 {
     let mut best = r;
     let mut j = k;
     let mut left = n;
     while 0 < left {
-        let q = page_of_single(singles, j);
-        best = nearer(p, q, best);
+        let q = single(singles, 2 * j);
+        best = nearer(w, q as usize, best);
         j = j + 1;
-        left = left - 1;
-    }
-    best
-}
-
-// Answers the lowest page from p on among n pages from element k on; r where there is none below r.
-// Example: where elements 1 and 2 are 5 and 9, next_of_log(pages, 1, 2, 6, 16) is 9.
-fn next_of_log(pages: &[u64; 40], k: usize, n: usize, p: usize, r: usize) -> usize
-    requires { ⌜ k + n ≤ 40 ⌝ }
-    ensures { λ x. ⌜ x ≡ nextOf (element (now (pages .entry))) k n p r ⌝ }
-{
-    let mut best = r;
-    let mut i = k;
-    let mut left = n;
-    while 0 < left {
-        let q = page(pages, i);
-        best = nearer(p, q as usize, best);
-        i = i + 1;
         left = left - 1;
     }
     best
@@ -311,72 +289,90 @@ fn greater(a: usize, b: usize) -> usize
     a
 }
 
-// Answers the lowest page from p on among count pages from page start on; r where there is none below r.
-// Example: next_of_run(3, 2, 0, 16) is 3, next_of_run(3, 2, 4, 16) is 4 and next_of_run(3, 2, 5, 16) is 16.
-fn next_of_run(start: usize, count: usize, p: usize, r: usize) -> usize
-    requires { ⌜ start + count ≤ 4096 ⌝ }
-    ensures { λ x. ⌜ x ≡ nextInRun start count p r ⌝ }
+// Answers a less b, 0 where b is greater.
+// Example: less(5, 3) is 2 and less(3, 5) is 0.
+fn less(a: usize, b: usize) -> usize
+    ensures { λ r. ⌜ r ≡ a - b ⌝ }
 {
-    let q = greater(p, start);
-    if q < start + count {
-        return nearer(p, q, r);
+    if a < b {
+        return 0;
     }
-    r
+    a - b
 }
 
-// Answers a page from p on, n at most, before which the group stores nothing from page p on: the lowest page in which one
-// of its parts lies, or n.
-// Example: where the group has singles in page 0, data pages 3 and 4 and a log in page 2, next_page is 0, 2, 3, 4 and n,
-// each asked from the page behind the one before.
-fn next_page(singles: &[u64; 32], pages: &[u64; 40], plan: Plan, p: usize, n: usize) -> usize
+// Answers the lowest word from w on of those from lo on below hi; r where there is none.
+// Example: lowest_from(0, 192, 320, 640) is 192, lowest_from(200, 192, 320, 640) is 200 and lowest_from(320, 192, 320, 640)
+// is 640.
+fn lowest_from(w: usize, lo: usize, hi: usize, r: usize) -> usize
+    ensures { λ x. ⌜ x ≡ lowestFrom w lo hi r ⌝ }
+{
+    if hi <= w {
+        return r;
+    }
+    if hi <= lo {
+        return r;
+    }
+    greater(w, lo)
+}
+
+// Answers the lowest word from w on that may be written in page j of a log: in the words from its first entry on, up to its
+// link or, in the last page, to the end of the last entry; r where there is none.
+// Example: where the log has pages 5 and 9 and one entry, from slot 6 on, log_word(pages, log, 0, 0, 640) is 368, and
+// log_word(pages, log, 0, 377, 640) is 640.
+fn log_word(pages: &[u64; 40], log: Log, j: usize, w: usize, r: usize) -> usize
+    requires { ⌜ LogFits log × (j < log .pages) ⌝ }
+    ensures { λ x. ⌜ x ≡ logWord log (now (pages .entry)) w r j ⌝ }
+{
+    let p = page(pages, log.from + j);
+    if MOST_PAGES <= p {
+        return r;
+    }
+    let s = PAGE_ENTRIES * j;
+    let i = PAGE_WORDS * (p as usize);
+    let lo = i + 8 * less(log.first, s);
+    if j + 1 < log.pages {
+        return lowest_from(w, lo, i + LINK_END, r);
+    }
+    lowest_from(w, lo, i + 8 * less(log.first + log.entries, s), r)
+}
+
+// Answers the lowest word from w on that may be written in the pages of a log; r where there is none below r.
+// Example: where the log has pages 5 and 9 and one entry, from slot 6 on, next_in_log(pages, log, 0, 640) is 368 and
+// next_in_log(pages, log, 377, 640) is 640.
+fn next_in_log(pages: &[u64; 40], log: Log, w: usize, r: usize) -> usize
+    requires { ⌜ LogFits log ⌝ }
+    ensures { λ x. ⌜ x ≡ nextOf (logWord log (now (pages .entry)) w r) 0 (log .pages) w r ⌝ }
+{
+    let mut best = r;
+    let mut j: usize = 0;
+    let mut left = log.pages;
+    while 0 < left {
+        let q = log_word(pages, log, j, w, r);
+        best = nearer(w, q, best);
+        j = j + 1;
+        left = left - 1;
+    }
+    best
+}
+
+// Answers a word from w on, end at most, before which the group stores nothing from word w on: the lowest word that one of
+// its parts may store, or end.
+// Example: where the group has singles in the words 16 and 17 and data pages 3 and 4, next_word is 16, 17, 192, 193 and so
+// on to 319 and then end, each asked from the word behind the one before.
+fn next_word(singles: &[u64; 32], pages: &[u64; 40], plan: Plan, w: usize, end: usize) -> usize
     requires { ⌜ Fits plan ⌝ }
-    ensures { λ r. ⌜ r ≡ nextPage plan (now (singles .entry)) (now (pages .entry)) p n ⌝ }
+    ensures { λ r. ⌜ r ≡ nextWord plan (now (singles .entry)) (now (pages .entry)) w end ⌝ }
 {
     let log = plan.log;
-    let a = next_single(singles, 0, plan.before, p, n);
-    let b = next_of_run(plan.start, plan.count, p, a);
-    let c = next_of_log(pages, log.from, log.pages, p, b);
-    next_single(singles, LAST_SINGLES, plan.after, p, c)
+    let i = PAGE_WORDS * plan.start;
+    let a = next_in_singles(singles, 0, plan.before, w, end);
+    let b = nearer(w, lowest_from(w, i, i + PAGE_WORDS * plan.count, a), a);
+    let c = next_in_log(pages, log, w, b);
+    next_in_singles(singles, LAST_SINGLES, plan.after, w, c)
 }
 
-// Puts the stores of page p into the list, from index at on, and answers the index behind them.
-// Example: where the group stores 66 in word 16 and 0 in word 17 and nothing else in page 0, emit_page of page 0 puts 16,
-// 66, 17, 0 and is at + 4.
-fn emit_page(
-    list: &mut [u64],
-    at: usize,
-    singles: &[u64; 32],
-    pages: &[u64; 40],
-    words: &[u64; 1792],
-    fresh: &[u64; 576],
-    plan: Plan,
-    p: usize,
-) -> usize
-    requires { ⌜ Fits plan × (p < 4096)
-        × (at + length (listed (planStores plan (now singles) (now pages) (now words) (now fresh)) 64 (64 * p)) ≤ length (now list)) ⌝ }
-    ensures { λ r. ⌜ Emitted (now (list .entry)) at
-        (listed (planStores plan (now (singles .entry)) (now (pages .entry)) (now (words .entry)) (now (fresh .entry))) 64 (64 * p))
-        r (now (list .exit)) ⌝ }
-{
-    let mut a = at;
-    let mut w = PAGE_WORDS * p;
-    let mut left = PAGE_WORDS;
-    while 0 < left {
-        let x = planned(singles, pages, words, fresh, plan, w);
-        let index = w as u64;
-        w = w + 1;
-        left = left - 1;
-        match x {
-            Word::Keep => {}
-            Word::Store(y) => {
-                a = stores::pair(list, a, index, y);
-            }
-        }
-    }
-    a
-}
-
-// Puts the stores of a group on a volume of n pages into the list, from index at on, and answers the index behind them.
+// Puts the stores of a group on a volume of n pages into the list, from index at on, and answers the index behind them. From
+// a word that is not stored it goes on at the next that may be.
 // Example: of a group that stores 1088 in word 66 and nothing else, emit_group puts 66, 1088 and is at + 2.
 pub fn emit_group(
     list: &mut [u64],
@@ -394,11 +390,20 @@ pub fn emit_group(
         (listed (planStores plan (now (singles .entry)) (now (pages .entry)) (now (words .entry)) (now (fresh .entry))) (64 * n) 0)
         r (now (list .exit)) ⌝ }
 {
+    let end = PAGE_WORDS * n;
     let mut a = at;
-    let mut p = next_page(singles, pages, plan, 0, n);
-    while p < n {
-        a = emit_page(list, a, singles, pages, words, fresh, plan, p);
-        p = next_page(singles, pages, plan, p + 1, n);
+    let mut w: usize = 0;
+    while w < end {
+        let x = planned(singles, pages, words, fresh, plan, w);
+        match x {
+            Word::Keep => {
+                w = next_word(singles, pages, plan, w + 1, end);
+            }
+            Word::Store(y) => {
+                a = stores::pair(list, a, w as u64, y);
+                w = w + 1;
+            }
+        }
     }
     a
 }

@@ -20,13 +20,12 @@ use Rattle.model.specs.Accept.{logOk, endOk, validOk, inodeOk}
 use Rattle.model.proofs.Tests.{by-bool, by-eq, no, ands}
 use Rattle.model.proofs.Frame.Placed.{Placed, in-bounds}
 use Rattle.model.proofs.Frame.Inode.{file-placed}
-use Rattle.model.proofs.State.Bytes.{kept-end, small-file}
+use Rattle.model.proofs.State.Bytes.{kept-end, placed-ended, small-file}
 use Rattle.journal.proofs.Views.{view-raw}
 use Rattle.log.specs.Ready.{Ready}
 use Rattle.log.proofs.Viewed.{inode-pages}
 use Rattle.files.specs.State.{fileFrom, Folds}
 use Rattle.files.specs.declared.Folded.{Folded}
-use Rattle.files.specs.declared.Folded.the-variants.{Size, Bad}
 use Rattle.marks.specs.Marks.{fresh, marked, mapped, mappedBy, usedBy, Marked}
 use Rattle.marks.proofs.Counts.{fresh-append, marked-append}
 use Rattle.inodes.specs.Judged.{Judged, EndJudged, FileJudged, InodeJudged}
@@ -78,6 +77,15 @@ mapped-all f g h (suc n) i =
     by-eq (f i) 0 (λ z. rw (mappedBy, eq-eqb (f i) 0 z) (mapped-all f g h n (i + 1)))
     (λ z. rw (mappedBy, ne-eqb (f i) 0 z, all, h i z) (mapped-all f g h n (i + 1)))
 
+-- file pages of which none is mapped from the c-th on have the data pages of the first c
+mapped-first : (f : ℕ → ℕ) (n c i : ℕ) → c ≤ n → ((j : ℕ) → i + c ≤ j → f j ≡ 0) → mappedBy f i c ≡ mappedBy f i n
+unfolding mappedBy
+mapped-first f zero zero i l h = refl
+mapped-first f zero (suc c) i l h = absurd (omega arith)
+mapped-first f (suc n) zero i l h =
+    rw (mappedBy, eq-eqb (f i) 0 (h i (omega arith))) (mapped-first f n 0 (i + 1) (omega arith) (λ j g. h j (omega arith)))
+mapped-first f (suc n) (suc c) i l h = rw (mapped-first f n c (i + 1) (omega arith) (λ j g. h j (omega arith)))
+
 -- File k, whose log is good: s is its size and t the table of its data pages.
 
 module _ (m : Mem) (L P N k s : ℕ) (t : List ℕ) (ready : Ready m L P N) (kp : 0 < k) (ok : logOk (view m) P N k ≡ true)
@@ -102,9 +110,9 @@ module _ (m : Mem) (L P N k s : ℕ) (t : List ℕ) (ready : Ready m L P N) (kp 
       by-eq (getD t (s / 512) 0) 0 (λ z. rw z (omega arith))
       (λ z. let i = in-bounds P N (getD t (s / 512) 0) (page-inside (s / 512) z) in omega arith)
 
-  pub table-in : all (inPages P N) (mapped t 0 128) ≡ true
+  pub table-in : (n : ℕ) → all (inPages P N) (mapped t 0 n) ≡ true
   unfolding mapped
-  table-in = mapped-all (λ j. getD t j 0) (inPages P N) page-inside 128 0
+  table-in n = mapped-all (λ j. getD t j 0) (inPages P N) page-inside n 0
 
   -- the data pages lie past the inode table, where the raw memory has the words of the view
   end-is : endOk m (fileFrom s t) ≡ endOk (view m) (fileOf (view m) P N k)
@@ -116,9 +124,15 @@ module _ (m : Mem) (L P N k s : ℕ) (t : List ℕ) (ready : Ready m L P N) (kp 
       sym (view-raw m N (64 * getD t i 0 + o) (ready .journal) (omega arith)))
       ∙ ap (endOk (view m)) f
 
-  mapped-is : mapped t 0 128 ≡ mappedBy (fileOf (view m) P N k .page) 0 filePages
+  -- where the end is good, the file pages that start below the size have all data pages; n is their count
+  mapped-is : (n : ℕ) → n ≡ (s + 511) / 512 → endOk m (fileFrom s t) ≡ true → mapped t 0 n ≡ mappedBy (fileOf (view m) P N k .page) 0 filePages
   unfolding mapped
-  mapped-is = ap (λ (g : File). mappedBy (g .page) 0 128) f
+  mapped-is n c good =
+      let a = end-size in
+      let g = placed-ended m P N (fileFrom s t) set-down good in
+      mapped-first (λ j. getD t j 0) 128 n 0 (omega arith)
+      (λ j l. by-eq (getD t j 0) 0 (λ z. z) (λ z. let b = g .starts j z in absurd (omega arith)))
+      ∙ ap (λ (x : File). mappedBy (x .page) 0 128) f
 
   module _ (r : Bool) (e : r ≡ endOk m (fileFrom s t)) where
     pub end-not : (a ps b : List ℕ) → not r ≡ true → Judged (endOk (view m) (fileOf (view m) P N k)) a ps false b
@@ -128,40 +142,31 @@ module _ (m : Mem) (L P N k s : ℕ) (t : List ℕ) (ready : Ready m L P N) (kp 
       pub log-not : not q ≡ true → EndJudged (view m) P N k a false b
       log-not y = marked-before _ a _ b (rw (fresh-append, sym (x .answer) ∙ not-true q y))
 
-      pub table-is : (o : Bool) (c : List ℕ) → not q ≡ false → Marked b (mapped t 0 128) o c → EndJudged (view m) P N k a o c
-      table-is o c y g =
+      pub table-is : (o : Bool) (c : List ℕ) (i : ℕ) → not q ≡ false → i ≡ (s + 511) / 512 → Marked b (mapped t 0 i) o c
+          → EndJudged (view m) P N k a o c
+      table-is o c i y h g =
           let z : q ≡ true = not-false q y in
+          let d : endOk m (fileFrom s t) ≡ true = sym e ∙ not-false r n in
           record {
-            answer = rw (sym end-is ∙ sym e ∙ not-false r n, fresh-append, sym (x .answer) ∙ z, ← x .list z, ← mapped-is) (g .answer);
-            list = λ w. rw (marked-append, ← x .list z, ← mapped-is) (g .list w);
+            answer = rw (sym end-is ∙ d, fresh-append, sym (x .answer) ∙ z, ← x .list z, ← mapped-is i h d) (g .answer);
+            list = λ w. rw (marked-append, ← x .list z, ← mapped-is i h d) (g .list w);
           }
 
 -- A file by what `file_state` answered, x, and the table t that it left; g is the file, and ok whether its log is good.
 
 module _ (ok : Bool) (g : File) (x : Folded) (t : List ℕ) (f : Folds ok g x t) where
-  state-bad : x ≡ Bad → ok ≡ false
-  state-bad e =
-      by-bool ok
-      (λ y. let z : Size (g .size) ≡ Bad = sym (rw y at (f .answer)) ∙ e in let w : _≡_ {A = ℕ} 0 1 = cc in absurd (omega arith))
-      (λ y. y)
+  pub file-bad : (e : Bool) (a ps : List ℕ) → not (x .good) ≡ true → Judged (ok && e) a ps false a
+  file-bad e a ps y = bad (ok && e) a ps a (rw (sym (f .good) ∙ not-true (x .good) y))
 
-  pub state-good : (s : ℕ) → x ≡ Size s → ok ≡ true
-  state-good s e =
-      by-bool ok (λ y. y)
-      (λ y. let z : Bad ≡ Size s = sym (rw y at (f .answer)) ∙ e in let w : _≡_ {A = ℕ} 0 1 = cc in absurd (omega arith))
+  module _ (y : not (x .good) ≡ false) where
+    pub state-good : ok ≡ true
+    state-good = sym (f .good) ∙ not-false (x .good) y
 
-  pub state-file : (s : ℕ) → x ≡ Size s → fileFrom s t ≡ g
-  state-file s e =
-      let o = state-good s e in
-      let z : Size (g .size) ≡ Size s = sym (rw o at (f .answer)) ∙ e in
-      let w : g .size ≡ s = cc in
-      ap (λ (n : ℕ). fileFrom n t) (sym w) ∙ f .file o
+    pub state-file : fileFrom (x .size) t ≡ g
+    state-file = f .file (not-false (x .good) y)
 
-  pub file-bad : (e : Bool) (a ps : List ℕ) → x ≡ Bad → Judged (ok && e) a ps false a
-  file-bad e a ps y = bad (ok && e) a ps a (rw (state-bad y))
-
-  pub file-good : (s : ℕ) (e : Bool) (a ps b : List ℕ) (r : Bool) → x ≡ Size s → Judged e a ps r b → Judged (ok && e) a ps r b
-  file-good s e a ps b r y j = record { answer = rw (state-good s y) (j .answer); list = j .list }
+    pub file-good : (e : Bool) (a ps b : List ℕ) (r : Bool) → Judged e a ps r b → Judged (ok && e) a ps r b
+    file-good e a ps b r j = record { answer = rw state-good (j .answer); list = j .list }
 
 -- Inode k, not the directory's: v is its valid word.
 

@@ -28,7 +28,7 @@ fn mark_inode(v: &[u8], k: usize, pages: usize, inodes: usize, marks: &mut [u8; 
 }
 
 // Judges the end of file k, whose log is good and gives this size and table, and marks its pages. Answers whether the
-// end is good and no page was marked before.
+// end is good and no page was marked before. Where the end is good, only file pages that start below the size are mapped.
 // Example: of a file of size 100 on page 9 the answer is false where a byte of page 9 from byte 100 on is not 0.
 fn judge_end(
     v: &[u8],
@@ -48,7 +48,7 @@ fn judge_end(
     if !mark_inode(v, k, pages, inodes, marks) {
         return false;
     }
-    marks::mark_table(table, pages, inodes, marks)
+    marks::mark_table(table, files::pages_below(size), pages, inodes, marks)
 }
 
 // Judges file k, which is valid, and marks its pages. Answers whether its log and its end are good and no page was
@@ -60,10 +60,10 @@ fn judge_file(v: &[u8], k: usize, pages: usize, inodes: usize, marks: &mut [u8; 
 {
     let mut table = [0u64; 128];
     let f = files::file_state(v, k, pages, inodes, &mut table);
-    match f {
-        files::Folded::Size(size) => judge_end(v, k, size as usize, &table, pages, inodes, marks),
-        files::Folded::Bad => false,
+    if !f.good {
+        return false;
     }
+    judge_end(v, k, f.size as usize, &table, pages, inodes, marks)
 }
 
 // Judges inode k, which is not the directory's, and marks its pages. Answers whether the inode is good and no page was

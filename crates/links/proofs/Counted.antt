@@ -10,8 +10,8 @@ use Rattle.model.specs.Lists.{bit, count, valuesFrom}
 use Rattle.model.specs.Words.{Mem}
 use Rattle.model.specs.State.{inodes}
 use Rattle.model.proofs.Tests.{bit-same, bit-other}
-use Rattle.names.specs.Places.{placesFrom, standing, Filled}
-use Rattle.names.proofs.Table.{places-first, first-places}
+use Rattle.directory.specs.Places.{placesFrom, standing, Filled}
+use Rattle.directory.proofs.Table.{places-first, first-places}
 
 -- how many of the names at n places of the table t, from its i-th on, lead to inode x
 abbrev pub leading : Mem → List ℕ → ℕ → ℕ → ℕ → ℕ

@@ -1,33 +1,38 @@
 -- The lowest invalid inode: the search from inode k on is the test of k, and the search from the next on.
-use Prim.Native.Nat.{ℕ, suc, _+_, _-_, _*_, _≤_, _<_}
+use Prim.Native.Nat.{ℕ, suc, _+_, _-_, _≤_, _<_}
 use mathlib.Core.Path.{_≡_, refl, sym, _∙_}
-use mathlib.Core.Bool.{true, false, not}
+use mathlib.Core.Bool.{Bool, true, false, not}
 use mathlib.Core.Option.{Option, none, some}
 use native.Mathlib.Omega.{arith}
 use lib.Dec.{eqb}
-use borrow.Author.Tests.{eq-eqb, ne-eqb}
+use borrow.Author.Tests.{ne-eqb, lt-ltb, not-true, not-false}
 use Rattle.model.specs.Lists.{lowest, isSome, orElse}
 use Rattle.model.specs.Words.{Mem}
 use Rattle.model.specs.Accept.{isValid}
 use Rattle.model.specs.Calls.{invalidInode}
 use Rattle.model.proofs.Lists.{lowest-is}
+use Rattle.names.specs.Inodes.{below, validIn}
 
 -- the lowest invalid inode from k on, of N inodes
 abbrev pub invalidFrom : Mem → ℕ → ℕ → Option ℕ
 invalidFrom u N k = lowest (λ j. not (isValid u j)) (N - k) k
 
--- The loop of `free_inode`: x is the valid word of inode k as the code read it, z what the whole search finds.
-module _ (u : Mem) (N k x : ℕ) (z : Option ℕ) (l : k < N) (e : x ≡ u (64 + 8 * k)) (a : invalidFrom u N k ≡ z) where
+-- The loop of `free_inode`: r is whether inode k is valid, z what the whole search finds.
+module _ (u : Mem) (N k : ℕ) (r : Bool) (z : Option ℕ) (l : k < N) (e : r ≡ validIn u N k) (a : invalidFrom u N k ≡ z) where
   more : N - k ≡ suc (N - (k + 1))
   more = omega arith
 
-  pub invalid-here : (x ≡ 1 → ⊥) → k ≡ orElse z 0
-  unfolding lowest
-  invalid-here h = let v : isValid u k ≡ false = ne-eqb (u (64 + 8 * k)) 1 (λ y. h (e ∙ y)) in rw (← a, more, lowest, v)
+  valid-is : isValid u k ≡ r
+  unfolding validIn below
+  valid-is = sym (e ∙ rw (lt-ltb k N l))
 
-  pub invalid-next : x ≡ 1 → invalidFrom u N (k + 1) ≡ z
+  pub invalid-here : not r ≡ true → k ≡ orElse z 0
   unfolding lowest
-  invalid-next h = let v : isValid u k ≡ true = eq-eqb (u (64 + 8 * k)) 1 (sym e ∙ h) in rw (more, lowest, v) at a
+  invalid-here h = rw (← a, more, lowest, valid-is, not-true r h)
+
+  pub invalid-next : not r ≡ false → invalidFrom u N (k + 1) ≡ z
+  unfolding lowest
+  invalid-next h = rw (more, lowest, valid-is, not-false r h) at a
 
 pub invalid-none : (u : Mem) (N k : ℕ) (z : Option ℕ) → N ≤ k → invalidFrom u N k ≡ z → 0 ≡ orElse z 0
 unfolding lowest

@@ -8,13 +8,13 @@ ghost use Rattle.model.specs.Words.{word};
 ghost use Rattle.model.specs.Journal.{view};
 ghost use Rattle.model.specs.State.{inodes as leads};
 ghost use Rattle.model.specs.Accept.{isValid};
-ghost use Rattle.names.specs.Places.{standing, Filled};
+ghost use Rattle.directory.specs.Places.{standing, Filled};
 ghost use Rattle.names.specs.Inodes.{Readable};
 
 // Answers how many of the names at the first count places of a table lead to an inode.
 // Example: where the entries at places 264, 265 and 271 add names to inodes 3, 5 and 3 and the table begins with these three,
 // names_of(v, places, 3, 3) is 2, names_of(v, places, 2, 3) is 1 and names_of(v, places, 3, 4) is 0.
-pub fn names_of(v: &[u8], places: &[u16; 28672], count: usize, inode: u64) -> usize
+pub fn names_of(v: &[u8], places: &[u16; 224], count: usize, inode: u64) -> usize
     requires { ⌜ Filled (word (now v)) (length (now v)) count (now places) ⌝ }
     ensures { λ r. ⌜ r ≡ times inode (leads (standing (word (now (v .entry))) (take count (now (places .entry))))) ⌝ }
 {
@@ -22,7 +22,7 @@ pub fn names_of(v: &[u8], places: &[u16; 28672], count: usize, inode: u64) -> us
     let mut i: usize = 0;
     let mut left = count;
     while 0 < left {
-        let p = names::place(places, i);
+        let p = directory::place(places, i);
         let k = names::inode_at(v, p) as u64;
         i = i + 1;
         left = left - 1;
@@ -41,7 +41,7 @@ pub fn free_inode(v: &[u8], inodes: u64) -> u64
 {
     let mut k: u64 = 1;
     while k < inodes {
-        if journal::viewed(v, 64 + 8 * (k as usize)) != 1 {
+        if !names::is_valid(v, k as usize, inodes as usize) {
             return k;
         }
         k = k + 1;

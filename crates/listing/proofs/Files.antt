@@ -1,6 +1,6 @@
 -- The files of an accepted volume: each name leads to one, and its log is good.
 use Prim.Native.Nat.{ℕ, _≤_, _<_}
-use mathlib.Core.Path.{_≡_, refl}
+use mathlib.Core.Path.{_≡_, refl, ap}
 use mathlib.Core.Bool.{true}
 use mathlib.Core.List.{List, [], _∷_}
 use native.Mathlib.Omega.{arith}
@@ -9,25 +9,18 @@ use lib.ListN.{length}
 use Rattle.model.specs.Lists.{all}
 use Rattle.model.specs.Words.{Mem}
 use Rattle.model.specs.Layout.{root}
-use Rattle.model.specs.State.{Names, fileOf, namesOf, inodes}
-use Rattle.model.specs.Accept.{isValid, logOk, namesOk, viewOk}
+use Rattle.model.specs.State.{File, Names, fileOf, namesOf, inodes}
+use Rattle.model.specs.Accept.{isValid, namesOk, viewOk}
 use Rattle.model.proofs.Tests.{ands}
 use Rattle.model.proofs.Lists.{all-cons}
 use Rattle.model.proofs.Frame.View.{log-ok, root-valid}
 use Rattle.model.proofs.State.NameEntries.{GoodNames, names-good}
-use Rattle.files.specs.State.{Folds}
-use Rattle.files.specs.declared.Folded.{Folded}
-use Rattle.files.specs.declared.Folded.the-variants.{Size, Bad}
-use Rattle.state.proofs.Sizes.{state-size, state-good}
-use Rattle.listing.specs.Lines.{GoodFile, GoodFiles}
+use Rattle.files.specs.State.{fileFrom}
+use Rattle.listing.specs.Lines.{GoodFiles}
 
--- what `file_state` answered, x, of a file
-module _ (u : Mem) (P N k : ℕ) (x : Folded) (t : List ℕ) (f : Folds (logOk u P N k) (fileOf u P N k) x t) (i : GoodFile u P N k) where
-  pub size-is : (n : ℕ) → x ≡ Size n → n ≡ fileOf u P N k .size
-  size-is n e = state-size _ _ x t f (i .log) n e
-
-  pub size-good : (n : ℕ) → x ≡ Bad → n ≡ fileOf u P N k .size
-  size-good n e = state-good _ _ x t f (i .log) e
+-- what `judged_file` answered, n, with the table t
+pub size-is : (u : Mem) (P N k n : ℕ) (t : List ℕ) → fileFrom n t ≡ fileOf u P N k → n ≡ fileOf u P N k .size
+size-is u P N k n t e = ap (λ (f : File). f .size) e
 
 module _ (u : Mem) (P N : ℕ) (ok : viewOk u P N ≡ true) where
   files-of : (ns : Names) → GoodNames N ns → all (isValid u) (inodes ns) ≡ true → GoodFiles u P N ns

@@ -11,8 +11,8 @@ use Rattle.model.specs.Entry.{padded, fieldOk}
 use Rattle.model.specs.Listing.{filesWord, freeWord, refusedWord, decimal, firstLine, nameLine, refusalLine}
 use Rattle.model.proofs.Tests.{ands}
 use Rattle.model.proofs.Log.Decode.{name-short, take-padded, length-padded}
-use Rattle.names.specs.Fields.{nameAt}
-use Rattle.names.specs.Places.{placeOk}
+use Rattle.directory.specs.Fields.{nameAt}
+use Rattle.directory.specs.Places.{placeOk}
 use Rattle.stores.specs.Emitted.{Emitted}
 use Rattle.stores.proofs.Emitting.{emitted-both}
 

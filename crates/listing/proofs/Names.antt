@@ -13,8 +13,8 @@ use Rattle.model.specs.Journal.{view}
 use Rattle.model.specs.State.{fileOf}
 use Rattle.model.specs.Listing.{decimal, nameLine, nameLines}
 use Rattle.model.proofs.Lists.{no-length}
-use Rattle.names.specs.Fields.{nameAt}
-use Rattle.names.specs.Places.{standing, placeOk, Filled}
+use Rattle.directory.specs.Fields.{nameAt}
+use Rattle.directory.specs.Places.{standing, placeOk, Filled}
 use Rattle.lookup.proofs.Places.{place-in}
 use Rattle.stores.specs.Emitted.{Emitted}
 use Rattle.stores.proofs.Emitting.{Rest, rest-none, rest-next}

@@ -8,6 +8,7 @@ use native.Mathlib.Omega.{arith}
 use borrow.Author.Tests.{lt-ltb, le-ltb}
 use lib.ListN.{length, take, drop}
 use Rattle.model.specs.Words.{word}
+use Rattle.model.specs.Layout.{root}
 use Rattle.model.specs.Journal.{journalOk, view}
 use Rattle.model.specs.Accept.{freeCount, viewOk, accepted}
 use Rattle.model.specs.Answer.{done, firstRefusal}
@@ -16,28 +17,29 @@ use Rattle.model.specs.Listing.{firstLine, refusalLine, nameLines, textOf, text
 use Rattle.model.proofs.Tests.{and-right}
 use Rattle.model.proofs.Crash.Landing.{Sizes, volume-parts, sizes-parts}
 use Rattle.log.specs.Ready.{Ready}
-use Rattle.names.specs.Places.{standing}
-use Rattle.names.proofs.Table.{standing-length}
+use Rattle.directory.specs.Places.{standing}
+use Rattle.directory.proofs.Table.{standing-length}
 use Rattle.inodes.specs.Judged.{unmarkedCount}
 use Rattle.inodes.proofs.Once.{free-count}
-use Rattle.answer.specs.Meaning.{meaning}
+use Rattle.answer.specs.Meaning.{meaning, refusalOf}
 use Rattle.answer.specs.declared.Answer.{Answer}
 use Rattle.answer.specs.declared.Answer.the-variants.{Number, NoVolume}
 use Rattle.gate.specs.Gated.{rootNames, Tables, Gated}
-use Rattle.gate.proofs.Gates.{NoNumber, refusal-of, same-refusal, none-refuses, gate-word-0, gate-word-1, gate-pages, gate-ready}
+use Rattle.gate.proofs.Gates.{refusal-of, same-refusal, none-refuses, gate-word-0, gate-word-1, gate-pages, gate-ready}
+use Rattle.answer.proofs.Codes.{NoNumber}
 use Rattle.stores.specs.Emitted.{Emitted}
 use Rattle.stores.proofs.Emitting.{emitted-both, emitted-parts}
-use Rattle.listing.specs.Lines.{refusalOf, GoodFiles}
+use Rattle.listing.specs.Lines.{GoodFiles}
 use Rattle.listing.proofs.Files.{names-files}
 use Rattle.listing.proofs.Fits.{first-most, lines-most, listing-fits}
 
 -- The text of an accepted volume v with n names, by the gate's tables.
-module _ (v : List ℕ) (n : ℕ) (places marks : List ℕ) (t : Tables v n places marks) where
+module _ (v : List ℕ) (n : ℕ) (places marks : List ℕ) (t : Tables v root n places marks) where
   count-is : length (rootNames v) ≡ n
   count-is = rw (← (t .names)) (standing-length (word v) (length v) places n (t .filled))
 
   -- such tables are what a gate with no checks leaves
-  gated : Gated v [] (Number n) places marks
+  gated : Gated v root [] (Number n) places marks
   gated = record { answer = rw count-is; tables = λ k e. let q : n ≡ k = cc in rw (← q) t }
 
   pub text-word-0 : 8 * 0 + 8 ≤ length v
@@ -90,8 +92,8 @@ module _ (v : List ℕ) (n : ℕ) (places marks : List ℕ) (t : Tables v n plac
           → Emitted m a (nameLines (view (word v)) P N (standing (word v) (take n places))) r o → Emitted l 0 (textOf (view (word v)) (word v 0) (word v 1)) r o
       text-put l a m r o e d = rw text-is (emitted-both e d)
 
-pub gate-tables : (v : List ℕ) (s : Answer) (places marks : List ℕ) → Gated v (closedChecks (length v) (word v)) s places marks → (n : ℕ) → s ≡ Number n
-    → Tables v n places marks
+pub gate-tables : (v : List ℕ) (s : Answer) (places marks : List ℕ) → Gated v root (closedChecks (length v) (word v)) s places marks → (n : ℕ) → s ≡ Number n
+    → Tables v root n places marks
 gate-tables v s places marks g n e = g .tables n e
 
 -- The listing of v, put into the text l; m is the text afterwards.
@@ -109,7 +111,7 @@ module _ (v : List ℕ) where
     long-put x e h q = rw (lt-ltb 65536 (length v) h, ← e) q
 
     -- g is what the gate answered of v
-    module _ (h : length v ≤ 65536) (s : Answer) (places marks : List ℕ) (g : Gated v (closedChecks (length v) (word v)) s places marks) where
+    module _ (h : length v ≤ 65536) (s : Answer) (places marks : List ℕ) (g : Gated v root (closedChecks (length v) (word v)) s places marks) where
       pub refused-put : (x : ℕ) → NoNumber s → x ≡ refusalOf (meaning s) → Emitted l 0 (refusalLine x) r m → Emitted l 0 (listing v) r m
       refused-put x o e q =
           let f : List ℕ → Option ℕ = λ y. some (length y) in

@@ -6,16 +6,16 @@ ghost use mathlib.Core.List.{[], _∷_, _++_};
 ghost use Prim.Native.Nat.{_+_, _*_, _%_, _≤_, _<_};
 ghost use lib.ListN.{length, take, drop};
 ghost use Rattle.model.specs.Words.{word};
+ghost use Rattle.model.specs.Layout.{root};
 ghost use Rattle.model.specs.Journal.{view};
 ghost use Rattle.model.specs.State.{fileOf};
 ghost use Rattle.model.specs.Listing.{decimal, firstLine, nameLine, refusalLine, nameLines, textOf, listing};
 ghost use Rattle.log.specs.Ready.{Ready};
-ghost use Rattle.names.specs.Fields.{nameAt};
-ghost use Rattle.names.specs.Places.{placeOk, standing, Filled};
-ghost use Rattle.answer.specs.Meaning.{meaning};
+ghost use Rattle.directory.specs.Fields.{nameAt};
+ghost use Rattle.directory.specs.Places.{placeOk, standing, Filled};
 ghost use Rattle.gate.specs.Gated.{Tables};
 ghost use Rattle.stores.specs.Emitted.{Emitted};
-ghost use Rattle.listing.specs.Lines.{refusalOf, GoodFile, GoodFiles, lineOf};
+ghost use Rattle.listing.specs.Lines.{GoodFile, GoodFiles, lineOf};
 use answer::Answer;
 
 // The bytes of the text. No listing is longer: its first line has at most 53, and 224 names have lines of at most 43.
@@ -150,11 +150,7 @@ fn file_size(v: &[u8], k: usize, pages: usize, inodes: usize) -> u64
     ensures { λ r. ⌜ r ≡ fileOf (view (word (now (v .entry)))) pages inodes k .size ⌝ }
 {
     let mut table = [0u64; 128];
-    let state = files::file_state(v, k, pages, inodes, &mut table);
-    match state {
-        files::Folded::Size(size) => size,
-        files::Folded::Bad => 0,
-    }
+    files::judged_file(v, k, pages, inodes, &mut table)
 }
 
 // Puts the line of the name of the entry at a place, which leads to a file of a volume with so many pages and inodes, and answers the
@@ -187,7 +183,7 @@ fn put_files(
     text: &mut [u8; TEXT_BYTES],
     at: usize,
     v: &[u8],
-    places: &[u16; 28672],
+    places: &[u16; 224],
     count: usize,
     pages: usize,
     inodes: usize,
@@ -201,35 +197,11 @@ fn put_files(
     let mut next = at;
     let mut i: usize = 0;
     while i < count {
-        let place = names::place(places, i);
+        let place = directory::place(places, i);
         next = put_file(text, next, v, place, pages, inodes);
         i = i + 1;
     }
     next
-}
-
-// Answers the number of a refusal, by "What the screen says", and 0 of an answer that is none.
-// Example: refusal_number(Answer::Damaged) is 3.
-fn refusal_number(answer: Answer) -> u64
-    ensures { λ r. ⌜ r ≡ refusalOf (meaning answer) ⌝ }
-{
-    match answer {
-        Answer::Done => 0,
-        Answer::Number(_) => 0,
-        Answer::ShortMemory => 1,
-        Answer::NoVolume => 2,
-        Answer::Damaged => 3,
-        Answer::JournalOpen => 4,
-        Answer::BadName => 5,
-        Answer::NotThere => 6,
-        Answer::Taken => 7,
-        Answer::LongWrite => 8,
-        Answer::PastTheEnd => 9,
-        Answer::NoInode => 10,
-        Answer::DirectoryFull => 11,
-        Answer::NoSpace => 12,
-        Answer::BadList => 13,
-    }
 }
 
 // Puts the text of an accepted volume from the text's start on, and answers the index behind it. The places of its count names and the
@@ -239,11 +211,11 @@ fn refusal_number(answer: Answer) -> u64
 fn put_text(
     text: &mut [u8; TEXT_BYTES],
     v: &[u8],
-    places: &[u16; 28672],
+    places: &[u16; 224],
     marks: &[u8; 4096],
     count: usize,
 ) -> usize
-    requires { ⌜ Tables (now v) count (now places) (now marks) ⌝ }
+    requires { ⌜ Tables (now v) root count (now places) (now marks) ⌝ }
     ensures { λ r. ⌜ Emitted (now (text .entry)) 0 (textOf (view (word (now (v .entry)))) (word (now (v .entry)) 0) (word (now (v .entry)) 1)) r (now (text .exit)) ⌝ }
 {
     let pages = words::word_at(v, header::PAGES_WORD) as usize;
@@ -263,13 +235,13 @@ pub fn lay_listing(v: &[u8], text: &mut [u8; TEXT_BYTES]) -> usize
         × (now (text .exit) ≡ listing (now (v .entry)) ++ drop r (now (text .entry))) ⌝ }
 {
     if MOST_BYTES < v.len() {
-        return put_refusal(text, 0, refusal_number(Answer::NoVolume));
+        return put_refusal(text, 0, answer::refusal(Answer::NoVolume));
     }
-    let mut places = [0u16; 28672];
+    let mut places = [0u16; 224];
     let mut marks = [0u8; 4096];
-    let gate = gate::closed(v, &mut places, &mut marks);
+    let gate = gate::closed(v, gate::ROOT, &mut places, &mut marks);
     let Answer::Number(count) = gate else {
-        return put_refusal(text, 0, refusal_number(gate));
+        return put_refusal(text, 0, answer::refusal(gate));
     };
     put_text(text, v, &places, &marks, count as usize)
 }

@@ -6,7 +6,7 @@ use mathlib.Core.List.{List}
 use mathlib.Core.Option.{Option, none, some}
 use native.Mathlib.Omega.{arith}
 use native.Mathlib.Numerals.{sub-one}
-use native.Mathlib.Nat.{le-refl, zero-add}
+use native.Mathlib.Nat.{le-refl, add-zero}
 use mir.Val.{Fits}
 use mir.Syntax.{w64}
 use lib.ListN.{length, take, drop, length-drop}
@@ -15,39 +15,44 @@ use borrow.Author.Tests.{eq-eqb, ne-eqb, lt-ltb, le-ltb}
 use Rattle.model.specs.Lists.{isSome}
 use Rattle.model.specs.Words.{Mem, word}
 use Rattle.model.specs.Layout.{inPages}
-use Rattle.model.specs.Entry.{entryAt}
 use Rattle.model.specs.Log.{walk, onto, tailOk, pagesOf}
 use Rattle.model.proofs.Tests.{not-true-false}
 use Rattle.model.proofs.Words.{word-drop}
-use Rattle.model.proofs.Log.Decode.{entry-same}
 use Rattle.model.proofs.Log.Extend.{tail-ok, tail-slots}
-use Rattle.log.specs.Steps.{short, landing, stepAt, startOf}
+use Rattle.log.specs.Entries.{nameIn, entryIn}
+use Rattle.log.specs.Steps.{landing, stepAt, startOf}
+use Rattle.log.specs.declared.Name.{Name}
 use Rattle.log.specs.declared.Entry.{Entry}
 use Rattle.log.specs.declared.Entry.the-variants.{Write, SetSize, Add, Remove, None}
 
 -- the entry reader
+pub is-name : (m : Mem) (a b d e f : ℕ) → a ≡ m 2 → b ≡ m 3 → d ≡ m 4 → e ≡ m 5 → f ≡ m 6
+    → record { len = a; first = b; second = d; third = e; fourth = f } ≡ nameIn m 0
+unfolding nameIn
+is-name m a b d e f g h i j k = rw (g, h, i, j, k)
+
 module _ (m : Mem) (k : ℕ) (h : k ≡ m 0) where
-  pub is-write : (a b d e : ℕ) → k ≡ 1 → a ≡ m 1 → b ≡ m 2 → d ≡ m 3 → e ≡ m 4 → Write a b d e ≡ short (entryAt m 0)
-  unfolding entryAt short
-  is-write a b d e t f g i j = rw (entryAt, eq-eqb (m 0) 1 (sym h ∙ t), f, g, i, j)
+  pub is-write : (a b d e : ℕ) → k ≡ 1 → a ≡ m 1 → b ≡ m 2 → d ≡ m 3 → e ≡ m 4 → Write a b d e ≡ entryIn m 0
+  unfolding entryIn
+  is-write a b d e t f g i j = rw (entryIn, eq-eqb (m 0) 1 (sym h ∙ t), f, g, i, j)
 
-  pub is-size : (a : ℕ) → (k ≡ 1 → ⊥) → k ≡ 2 → a ≡ m 1 → SetSize a ≡ short (entryAt m 0)
-  unfolding entryAt short
-  is-size a n t f = rw (entryAt, eq-eqb (m 0) 2 (sym h ∙ t), ne-eqb (m 0) 1 (λ q. n (h ∙ q)), f)
+  pub is-size : (a : ℕ) → (k ≡ 1 → ⊥) → k ≡ 2 → a ≡ m 1 → SetSize a ≡ entryIn m 0
+  unfolding entryIn
+  is-size a n t f = rw (entryIn, eq-eqb (m 0) 2 (sym h ∙ t), ne-eqb (m 0) 1 (λ q. n (h ∙ q)), f)
 
-  pub is-add : (a b : ℕ) → (k ≡ 1 → ⊥) → (k ≡ 2 → ⊥) → k ≡ 3 → a ≡ m 1 → b ≡ m 2 → Add a b ≡ short (entryAt m 0)
-  unfolding entryAt short
-  is-add a b n o t f g = rw (entryAt, eq-eqb (m 0) 3 (sym h ∙ t), ne-eqb (m 0) 1 (λ q. n (h ∙ q)), ne-eqb (m 0) 2 (λ q. o (h ∙ q)), f, g)
+  pub is-add : (a : ℕ) (b : Name) → (k ≡ 1 → ⊥) → (k ≡ 2 → ⊥) → k ≡ 3 → a ≡ m 1 → b ≡ nameIn m 0 → Add a b ≡ entryIn m 0
+  unfolding entryIn
+  is-add a b n o t f g = rw (entryIn, eq-eqb (m 0) 3 (sym h ∙ t), ne-eqb (m 0) 1 (λ q. n (h ∙ q)), ne-eqb (m 0) 2 (λ q. o (h ∙ q)), f, g)
 
-  pub is-remove : (b : ℕ) → (k ≡ 1 → ⊥) → (k ≡ 2 → ⊥) → (k ≡ 3 → ⊥) → k ≡ 4 → b ≡ m 2 → Remove b ≡ short (entryAt m 0)
-  unfolding entryAt short
+  pub is-remove : (b : Name) → (k ≡ 1 → ⊥) → (k ≡ 2 → ⊥) → (k ≡ 3 → ⊥) → k ≡ 4 → b ≡ nameIn m 0 → Remove b ≡ entryIn m 0
+  unfolding entryIn
   is-remove b n o p t g =
-      rw (entryAt, eq-eqb (m 0) 4 (sym h ∙ t), ne-eqb (m 0) 1 (λ q. n (h ∙ q)), ne-eqb (m 0) 2 (λ q. o (h ∙ q)), ne-eqb (m 0) 3 (λ q. p (h ∙ q)), g)
+      rw (entryIn, eq-eqb (m 0) 4 (sym h ∙ t), ne-eqb (m 0) 1 (λ q. n (h ∙ q)), ne-eqb (m 0) 2 (λ q. o (h ∙ q)), ne-eqb (m 0) 3 (λ q. p (h ∙ q)), g)
 
-  pub is-none : (k ≡ 1 → ⊥) → (k ≡ 2 → ⊥) → (k ≡ 3 → ⊥) → (k ≡ 4 → ⊥) → None ≡ short (entryAt m 0)
-  unfolding entryAt short
+  pub is-none : (k ≡ 1 → ⊥) → (k ≡ 2 → ⊥) → (k ≡ 3 → ⊥) → (k ≡ 4 → ⊥) → None ≡ entryIn m 0
+  unfolding entryIn
   is-none n o p s =
-      rw (entryAt, ne-eqb (m 0) 1 (λ q. n (h ∙ q)), ne-eqb (m 0) 2 (λ q. o (h ∙ q)), ne-eqb (m 0) 3 (λ q. p (h ∙ q)), ne-eqb (m 0) 4 (λ q. s (h ∙ q)))
+      rw (entryIn, ne-eqb (m 0) 1 (λ q. n (h ∙ q)), ne-eqb (m 0) 2 (λ q. o (h ∙ q)), ne-eqb (m 0) 3 (λ q. p (h ∙ q)), ne-eqb (m 0) 4 (λ q. s (h ∙ q)))
 
 -- the step
 pub landed-next : (m : Mem) (at x : ℕ) → at % 64 ≡ 56 → x ≡ m at → 64 * x ≡ landing m at
@@ -65,13 +70,15 @@ rest : (l : List ℕ) (a : ℕ) → take (length l - a) (drop a l) ≡ drop a l
 rest l a = take-all (length l - a) (drop a l) (rw length-drop (le-refl _))
 
 -- a part's first entry is the volume's at that word
-part-entry : (v : List ℕ) (a : ℕ) → entryAt (word (take (length v - 8 * a) (drop (8 * a) v))) 0 ≡ entryAt (word v) a
+part-entry : (v : List ℕ) (a : ℕ) → entryIn (word (take (length v - 8 * a) (drop (8 * a) v))) 0 ≡ entryIn (word v) a
+unfolding entryIn nameIn
 part-entry v a =
-    rw (rest v (8 * a)) (entry-same (word v) (word (drop (8 * a) v)) a 0 (λ o l. word-drop v a (0 + o) ∙ ap (λ (x : ℕ). word v (a + x)) (zero-add o)))
+    let w : word (drop (8 * a) v) 0 ≡ word v a = word-drop v a 0 ∙ ap (word v) (add-zero a) in
+    rw (rest v (8 * a), w) (simp (word-drop v a))
 
 pub is-step : (v : List ℕ) (from at : ℕ) (e : Entry) → at ≡ landing (word v) from
-    → e ≡ short (entryAt (word (take (length v - 8 * at) (drop (8 * at) v))) 0)
-    → record { entry = e; at = at; next = record { at = at + 8 } } ≡ stepAt (word v) from
+    → e ≡ entryIn (word (take (length v - 8 * at) (drop (8 * at) v))) 0
+    → record { entry = e; next = record { at = at + 8 } } ≡ stepAt (word v) from
 is-step v from at e g h = rw (h, part-entry, g)
 
 -- the walk

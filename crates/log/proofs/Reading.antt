@@ -1,8 +1,8 @@
--- A log whose walk ends, read by a cursor: page by page the cursor meets the entries of the model, and it stays inside.
+-- A log whose walk ends, read by a cursor: page by page the cursor meets the words of the model, and it stays inside.
 use Prim.Native.Nat.{ℕ, zero, suc, _+_, _*_, _-_, _/_, _%_, _≤_, _<_}
 use mathlib.Core.Path.{_≡_, refl, sym}
 use mathlib.Core.Bool.{true}
-use mathlib.Core.List.{List, [], _∷_, _++_, map, map-append, append-nil}
+use mathlib.Core.List.{List, [], _∷_, _++_, append-nil}
 use mathlib.Core.Option.{Option, none, some}
 use native.Mathlib.Omega.{arith}
 use native.Mathlib.Nat.{zero-add, add-zero}
@@ -10,13 +10,12 @@ use lib.ListN.{length}
 use borrow.Author.Tests.{eq-eqb, ne-eqb, lt-ltb}
 use Rattle.model.specs.Lists.{isSome}
 use Rattle.model.specs.Words.{Mem}
-use Rattle.model.specs.Entry.{entryAt}
 use Rattle.model.specs.Log.{walk, slots, entryWords, tailOk, pagesOf}
 use Rattle.model.proofs.Tests.{by-bool, by-eq, by-lt, no}
 use Rattle.model.proofs.Log.Chain.{Chain, walk-chain}
 use Rattle.model.proofs.Log.Extend.{tail-slots}
 use Rattle.model.proofs.Frame.Placed.{in-bounds}
-use Rattle.log.specs.Steps.{landing, entriesFrom, within, startOf, entriesOf}
+use Rattle.log.specs.Steps.{landing, wordsFrom, within, startOf, wordsOf}
 
 module _ (m : Mem) (P end : ℕ) where
   land-here : (at : ℕ) → at % 64 + 8 ≤ 56 → landing m at ≡ at
@@ -24,19 +23,19 @@ module _ (m : Mem) (P end : ℕ) where
   land-here at h = rw (ne-eqb (at % 64) 56 (omega arith))
 
   -- entries of one page, none of them at the end
-  page-entries : (k at n : ℕ) → at % 64 + 8 * k ≤ 56 → ((x : ℕ) → at ≤ x → x < at + 8 * k → x ≡ end → ⊥)
-      → entriesFrom (k + n) m at end ≡ map (entryAt m) (slots k at) ++ entriesFrom n m (at + 8 * k) end
-  unfolding entriesFrom slots
-  page-entries zero at n h miss = rw (zero-add n, add-zero at)
-  page-entries (suc k) at n h miss =
+  page-words : (k at n : ℕ) → at % 64 + 8 * k ≤ 56 → ((x : ℕ) → at ≤ x → x < at + 8 * k → x ≡ end → ⊥)
+      → wordsFrom (k + n) m at end ≡ slots k at ++ wordsFrom n m (at + 8 * k) end
+  unfolding wordsFrom slots
+  page-words zero at n h miss = rw (zero-add n, add-zero at)
+  page-words (suc k) at n h miss =
       let s : suc k + n ≡ suc (k + n) = omega arith in
       let t : at + 8 + 8 * k ≡ at + 8 * suc k = omega arith in
       rw (
         s,
-        entriesFrom,
+        wordsFrom,
         ne-eqb at end (miss at (omega arith) (omega arith)),
         land-here at (omega arith),
-        page-entries k (at + 8) n (omega arith) (λ x l g. miss x (omega arith) (omega arith)),
+        page-words k (at + 8) n (omega arith) (λ x l g. miss x (omega arith) (omega arith)),
         t,
       )
 
@@ -59,12 +58,12 @@ module _ (m : Mem) (P end : ℕ) where
       )
 
   -- from a footer to the next page
-  hop-entries : (p n : ℕ) → 0 < n → (64 * p + 56 ≡ end → ⊥) → (64 * m (64 * p + 56) ≡ end → ⊥)
-      → entriesFrom n m (64 * p + 56) end ≡ entriesFrom n m (64 * m (64 * p + 56)) end
-  unfolding entriesFrom landing
-  hop-entries p zero l h g = absurd (omega arith)
-  hop-entries p (suc n) l h g =
-      rw (entriesFrom, ne-eqb _ _ h, ne-eqb _ _ g, eq-eqb ((64 * p + 56) % 64) 56 (omega arith), ne-eqb (64 * m (64 * p + 56) % 64) 56 (omega arith))
+  hop-words : (p n : ℕ) → 0 < n → (64 * p + 56 ≡ end → ⊥) → (64 * m (64 * p + 56) ≡ end → ⊥)
+      → wordsFrom n m (64 * p + 56) end ≡ wordsFrom n m (64 * m (64 * p + 56)) end
+  unfolding wordsFrom landing
+  hop-words p zero l h g = absurd (omega arith)
+  hop-words p (suc n) l h g =
+      rw (wordsFrom, ne-eqb _ _ h, ne-eqb _ _ g, eq-eqb ((64 * p + 56) % 64) 56 (omega arith), ne-eqb (64 * m (64 * p + 56) % 64) 56 (omega arith))
 
   hop-within : (p n : ℕ) → 0 < n → p < P → m (64 * p + 56) < P → (64 * p + 56 ≡ end → ⊥) → (64 * m (64 * p + 56) ≡ end → ⊥)
       → within n m P (64 * p + 56) end ≡ within n m P (64 * m (64 * p + 56)) end
@@ -81,10 +80,10 @@ module _ (m : Mem) (P end : ℕ) where
         lt-ltb (64 * m (64 * p + 56)) (64 * P) (omega arith),
       )
 
-  at-end : (n : ℕ) → entriesFrom n m end end ≡ []
-  unfolding entriesFrom
+  at-end : (n : ℕ) → wordsFrom n m end end ≡ []
+  unfolding wordsFrom
   at-end zero = refl
-  at-end (suc n) = rw (entriesFrom, eq-eqb end end refl)
+  at-end (suc n) = rw (wordsFrom, eq-eqb end end refl)
 
   within-end : (n : ℕ) → within n m P end end ≡ true
   unfolding within
@@ -104,30 +103,29 @@ module _ (m : Mem) (P N q c : ℕ) (low : 1 ≤ c) (high : c ≤ 7) where
   abbrev end : ℕ
   end = 64 * q + 8 * c
 
-  last-entries : (n : ℕ) → entriesFrom (7 + n) m (64 * q) end ≡ map (entryAt m) (slots c (64 * q))
-  last-entries n =
+  last-words : (n : ℕ) → wordsFrom (7 + n) m (64 * q) end ≡ slots c (64 * q)
+  last-words n =
       let s : 7 + n ≡ c + (7 - c + n) = omega arith in
-      rw (s, page-entries m P end c (64 * q) (7 - c + n) (omega arith) (λ x l g e. omega arith), at-end m P end) (append-nil _)
+      rw (s, page-words m P end c (64 * q) (7 - c + n) (omega arith) (λ x l g e. omega arith), at-end m P end) (append-nil _)
 
   last-within : (n : ℕ) → q < P → within (7 + n) m P (64 * q) end ≡ true
   last-within n b =
       let s : 7 + n ≡ c + (7 - c + n) = omega arith in
       rw (s, page-within m P end c (64 * q) (7 - c + n) (omega arith) (omega arith) (λ x l g e. omega arith)) (within-end m P end (7 - c + n))
 
-  chain-entries : (p : ℕ) (ps : List ℕ) (n : ℕ) → Chain m P N q (p ∷ ps)
-      → entriesFrom (7 * length (p ∷ ps) + n) m (64 * p) end ≡ map (entryAt m) (entryWords (p ∷ ps) c)
+  chain-words : (p : ℕ) (ps : List ℕ) (n : ℕ) → Chain m P N q (p ∷ ps)
+      → wordsFrom (7 * length (p ∷ ps) + n) m (64 * p) end ≡ entryWords (p ∷ ps) c
   unfolding entryWords
-  chain-entries p [] n h = let s : 7 * 1 + n ≡ 7 + n = omega arith in rw (s, h .1) (last-entries n)
-  chain-entries p (r ∷ ps) n h =
+  chain-words p [] n h = let s : 7 * 1 + n ≡ 7 + n = omega arith in rw (s, h .1) (last-words n)
+  chain-words p (r ∷ ps) n h =
       let s : 7 * length (p ∷ r ∷ ps) + n ≡ 7 + (7 * length (r ∷ ps) + n) = omega arith in
       let d : (x : ℕ) → 64 * p ≤ x → x < 64 * p + 64 → x ≡ end → ⊥ = λ x l g e. h .1 (omega arith) in
       rw (
         s,
-        page-entries m P end 7 (64 * p) (7 * length (r ∷ ps) + n) (omega arith) (λ x l g. d x l (omega arith)),
-        hop-entries m P end p (7 * length (r ∷ ps) + n) (omega arith) (d (64 * p + 56) (omega arith) (omega arith)) (off (m (64 * p + 56))),
+        page-words m P end 7 (64 * p) (7 * length (r ∷ ps) + n) (omega arith) (λ x l g. d x l (omega arith)),
+        hop-words m P end p (7 * length (r ∷ ps) + n) (omega arith) (d (64 * p + 56) (omega arith) (omega arith)) (off (m (64 * p + 56))),
         h .2,
-        chain-entries r ps n (h .3),
-        map-append,
+        chain-words r ps n (h .3),
       )
 
   chain-within : (p : ℕ) (ps : List ℕ) (n : ℕ) → Chain m P N q (p ∷ ps) → within (7 * length (p ∷ ps) + n) m P (64 * p) end ≡ true
@@ -149,13 +147,13 @@ module _ (m : Mem) (P N q c : ℕ) (low : 1 ≤ c) (high : c ≤ 7) where
 
 -- what a cursor reads of a log whose walk ends
 pub record Read (m : Mem) (P N h t : ℕ) : Type 0 where
-  pub entries : entriesFrom (7 * P) m (startOf h t) (t / 8) ≡ entriesOf m P N h t
+  pub words : wordsFrom (7 * P) m (startOf h t) (t / 8) ≡ wordsOf m P N h t
   pub inside : within (7 * P) m P (startOf h t) (t / 8) ≡ true
   pub start : startOf h t ≤ 64 * P
 
 module _ (m : Mem) (P N h t : ℕ) where
   read-chain : (t ≡ 0 → ⊥) → tailOk t ≡ true → (p : ℕ) (ps : List ℕ) → walk m P N P h (t / 512) ≡ some (p ∷ ps) → Read m P N h t
-  unfolding pagesOf startOf entriesOf
+  unfolding pagesOf startOf wordsOf
   read-chain z k p ps e =
       let a = tail-slots t k in
       let w = walk-chain m P N (t / 512) P h (p ∷ ps) e in
@@ -165,7 +163,7 @@ module _ (m : Mem) (P N h t : ℕ) where
       let x = 7 * P - 7 * length (p ∷ ps) in
       let s : h ≡ p = sym (w .1) in
       record {
-        entries = rw (ne-eqb t 0 z, k, e, f, q, s) (chain-entries m P N (t / 512) (t % 512 / 64) (a .1) (a .2) p ps x (w .0));
+        words = rw (ne-eqb t 0 z, k, e, f, q, s) (chain-words m P N (t / 512) (t % 512 / 64) (a .1) (a .2) p ps x (w .0));
         inside = rw (ne-eqb t 0 z, f, q, s) (chain-within m P N (t / 512) (t % 512 / 64) (a .1) (a .2) p ps x (w .0));
         start = let b = first-in m P N (t / 512) p ps (w .0) in rw (ne-eqb t 0 z, s) (omega arith);
       }
@@ -176,10 +174,10 @@ module _ (m : Mem) (P N h t : ℕ) where
   read-walk z k (some (p ∷ ps)) e y = read-chain z k p ps e
 
   read-empty : t ≡ 0 → Read m P N h t
-  unfolding startOf entriesOf pagesOf entryWords
+  unfolding startOf wordsOf pagesOf entryWords
   read-empty z =
       record {
-        entries = rw z (at-end m P 0 (7 * P));
+        words = rw z (at-end m P 0 (7 * P));
         inside = rw z (within-end m P 0 (7 * P));
         start = rw z (omega arith);
       }

@@ -11,8 +11,8 @@ use Rattle.model.specs.Words.{Mem}
 use Rattle.model.specs.Layout.{headWord, tailWord, footer, inPages}
 use Rattle.model.specs.Journal.{view, journalOk}
 use Rattle.model.specs.Entry.{entryAt}
-use Rattle.model.specs.Log.{walk, entryWords, tailOk, pagesOf, logPages, pages, entries}
-use Rattle.model.proofs.Tests.{by-bool, by-eq}
+use Rattle.model.specs.Log.{walk, entryWords, tailOk, tailSlots, pagesOf, logPages, pages, entries}
+use Rattle.model.proofs.Tests.{by-bool, by-eq, no}
 use Rattle.model.proofs.Lists.{all-has}
 use Rattle.model.proofs.Log.Chain.{walk-chain, chain-inside}
 use Rattle.model.proofs.Log.Pages.{entries-same, live-words}
@@ -20,8 +20,10 @@ use Rattle.model.proofs.Frame.Placed.{in-bounds}
 use Rattle.words.proofs.Cond.{asked-true, asked-false}
 use Rattle.journal.proofs.Views.{view-raw}
 use Rattle.log.specs.Ready.{Ready}
-use Rattle.log.specs.Steps.{entriesFrom, within, startOf, entriesOf}
+use Rattle.log.specs.Steps.{wordsFrom, entriesFrom, startOf, wordsOf}
+use Rattle.log.specs.Found.{LogOf}
 use Rattle.log.proofs.Reading.{Read, read}
+use Rattle.log.proofs.Places.{log-apart, log-placed}
 
 module _ (m u : Mem) (P N : ℕ) (eight : N % 8 ≡ 0) (same : (w : ℕ) → 64 + 8 * N ≤ w → u w ≡ m w) where
   walk-raw : (n p q : ℕ) → walk m P N n p q ≡ walk u P N n p q
@@ -48,8 +50,8 @@ module _ (m u : Mem) (P N : ℕ) (eight : N % 8 ≡ 0) (same : (w : ℕ) → 64 
       let z = in-bounds P N (w / 64) (all-has (inPages P N) (w / 64) ps (chain-inside u P N q ps d) i) in
       sym (same w (omega arith))) l)
 
-  entries-raw : (h t : ℕ) → entriesOf m P N h t ≡ map (entryAt u) (entryWords (orElse (pagesOf u P N h t) []) (t % 512 / 64))
-  unfolding entriesOf pagesOf entryWords
+  entries-raw : (h t : ℕ) → map (entryAt m) (wordsOf m P N h t) ≡ map (entryAt u) (entryWords (orElse (pagesOf u P N h t) []) (t % 512 / 64))
+  unfolding wordsOf pagesOf entryWords
   entries-raw h t =
       by-eq t 0 (λ z. rw z)
       (λ z. by-bool (tailOk t)
@@ -61,7 +63,11 @@ module _ (m : Mem) (P N : ℕ) (eight : N % 8 ≡ 0) (j : journalOk m N ≡ true
   unfolding logPages
   inode-pages = pages-raw m (view m) P N eight (λ w h. view-raw m N w j h) (view m (headWord k)) (view m (tailWord k))
 
-  pub inode-entries : entriesOf m P N (view m (headWord k)) (view m (tailWord k)) ≡ entries (view m) P N k
+  inode-words : wordsOf m P N (view m (headWord k)) (view m (tailWord k)) ≡ entryWords (pages (view m) P N k) (tailSlots (view m) k)
+  unfolding wordsOf pages
+  inode-words = rw inode-pages
+
+  inode-entries : map (entryAt m) (wordsOf m P N (view m (headWord k)) (view m (tailWord k))) ≡ entries (view m) P N k
   unfolding logPages entries pages
   inode-entries = entries-raw m (view m) P N eight (λ w h. view-raw m N w j h) (view m (headWord k)) (view m (tailWord k))
 
@@ -71,23 +77,30 @@ module _ (m : Mem) (L P N k h t : ℕ) (ready : Ready m L P N) (g : h ≡ view m
   found-is : isSome (pagesOf m P N h t) ≡ isSome (logPages (view m) P N k)
   found-is = rw (g, i, inode-pages m P N (ready .eight) (ready .journal) k)
 
-  pub inode-lost : not r ≡ true → isSome (logPages (view m) P N k) ≡ false
-  inode-lost n = sym found-is ∙ asked-false (isSome (pagesOf m P N h t)) r e n
+  pub log-lost : not r ≡ true → LogOf m L P N k (record { found = false; start = 0; end = 0; pages = P })
+  log-lost n =
+      let z : isSome (logPages (view m) P N k) ≡ false = sym found-is ∙ asked-false (isSome (pagesOf m P N h t)) r e n in
+      record { answer = sym z; of-pages = refl; inside = λ y. no y; apart = λ y. no y; placed = λ y. no y; entries-are = λ y. no y }
 
   module _ (n : not r ≡ false) where
-    pub inode-found : isSome (logPages (view m) P N k) ≡ true
-    inode-found = sym found-is ∙ asked-true (isSome (pagesOf m P N h t)) r e n
-
     reading : Read m P N h t
     reading = read m P N h t (asked-true (isSome (pagesOf m P N h t)) r e n)
 
     pub start-room : startOf h t ≤ 262144
     start-room = let x = reading .start in let y = ready .pages in omega arith
 
-    pub start-inside : (at : ℕ) → at ≡ startOf h t → within (7 * P) m P at (t / 8) ≡ true
-    start-inside at q = rw q (reading .inside)
-
-    pub start-entries : (at : ℕ) → at ≡ startOf h t → entriesFrom (7 * P) m at (t / 8) ≡ entries (view m) P N k
-    start-entries at q =
-        let d : entriesOf m P N h t ≡ entries (view m) P N k = rw (g, i) (inode-entries m P N (ready .eight) (ready .journal) k) in
-        rw q (reading .entries ∙ d)
+    pub log-there : (at : ℕ) → at ≡ startOf h t → LogOf m L P N k (record { found = true; start = at; end = t / 8; pages = P })
+    unfolding entriesFrom
+    log-there at q =
+        let w : wordsFrom (7 * P) m at (t / 8) ≡ wordsOf m P N h t = rw q (reading .words) in
+        let d : wordsOf m P N h t ≡ entryWords (pages (view m) P N k) (tailSlots (view m) k) =
+        rw (g, i) (inode-words m P N (ready .eight) (ready .journal) k) in
+        let f : map (entryAt m) (wordsOf m P N h t) ≡ entries (view m) P N k = rw (g, i) (inode-entries m P N (ready .eight) (ready .journal) k) in
+        record {
+          answer = sym (asked-true (isSome (pagesOf m P N h t)) r e n) ∙ found-is;
+          of-pages = refl;
+          inside = λ _. record { steps = rw q (reading .inside); bytes = ready .bytes; few = ready .pages };
+          apart = λ _. rw (w, d) (log-apart (view m) P N k);
+          placed = λ _. rw (w, d) (log-placed (view m) P N k);
+          entries-are = λ _. rw w f;
+        }

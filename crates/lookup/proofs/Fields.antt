@@ -13,7 +13,7 @@ use Rattle.model.specs.Entry.{padded, nameField, isZero, fieldOk}
 use Rattle.model.proofs.Tests.{by-lt, ands}
 use Rattle.model.proofs.Lists.{length-values, has-getD, all-has, same-ne}
 use Rattle.model.proofs.Log.Decode.{length-padded, padded-at}
-use Rattle.names.specs.Fields.{nameAt, fieldAt}
+use Rattle.directory.specs.Fields.{nameAt, fieldAt}
 
 -- the first k of n values
 take-values : (f : ℕ → ℕ) (x n k : ℕ) → k ≤ n → take k (valuesFrom f x n) ≡ valuesFrom f x k

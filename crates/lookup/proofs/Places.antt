@@ -13,8 +13,8 @@ use Rattle.model.specs.Words.{Mem}
 use Rattle.model.specs.State.{inodeOf}
 use Rattle.model.proofs.Tests.{ands}
 use Rattle.model.proofs.Lists.{has-getD, all-has, no-length}
-use Rattle.names.specs.Fields.{nameAt, fieldAt}
-use Rattle.names.specs.Places.{standing, placeOk, Filled}
+use Rattle.directory.specs.Fields.{nameAt, fieldAt}
+use Rattle.directory.specs.Places.{standing, placeOk, Filled}
 
 -- The entry at a place p.
 

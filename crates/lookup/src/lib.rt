@@ -1,5 +1,5 @@
 // Names looked up: whether bytes are a name, the inode that a name leads to, and a name laid into a lent buffer. v is the volume.
-// The names that stand are known by their places, which the crate `names` puts into a table: a place is the first word of a
+// The names that stand are known by their places, which the crate `directory` puts into a table: a place is the first word of a
 // name's add entry divided by 8.
 ghost use mathlib.Core.Path.{_≡_};
 ghost use mathlib.Core.Bool.{true};
@@ -10,8 +10,8 @@ ghost use Rattle.model.specs.Lists.{all, sameList, valuesFrom};
 ghost use Rattle.model.specs.Words.{word, byteAt};
 ghost use Rattle.model.specs.Entry.{nameByteOk, nameOk, padded};
 ghost use Rattle.model.specs.State.{inodeOf};
-ghost use Rattle.names.specs.Fields.{nameAt, fieldAt};
-ghost use Rattle.names.specs.Places.{standing, placeOk, Filled};
+ghost use Rattle.directory.specs.Fields.{nameAt, fieldAt};
+ghost use Rattle.directory.specs.Places.{standing, placeOk, Filled};
 
 // How many bytes a name has at most, and how many its field has.
 const NAME_BYTES: usize = 32;
@@ -103,13 +103,13 @@ fn has_name(v: &[u8], place: usize, name: &[u8]) -> bool
 // there, since no name leads to inode 0.
 // Example: where the entries at places 264 and 265 add "a" to inode 3 and "b" to inode 5 and the table begins with these two,
 // find_name(v, places, 2, "b") is 5, and find_name(v, places, 1, "b") and find_name(v, places, 2, "c") are 0.
-pub fn find_name(v: &[u8], places: &[u16; 28672], count: usize, name: &[u8]) -> u64
+pub fn find_name(v: &[u8], places: &[u16; 224], count: usize, name: &[u8]) -> u64
     requires { ⌜ Filled (word (now v)) (length (now v)) count (now places) ⌝ }
     ensures { λ r. ⌜ r ≡ inodeOf (standing (word (now (v .entry))) (take count (now (places .entry)))) (now (name .entry)) ⌝ }
 {
     let mut i: usize = 0;
     while i < count {
-        let p = names::place(places, i);
+        let p = directory::place(places, i);
         if has_name(v, p, name) {
             return inode_at(v, p);
         }

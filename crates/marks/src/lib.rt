@@ -61,15 +61,21 @@ fn get(table: &[u64; 128], i: usize) -> u64
     table[i]
 }
 
-// Marks the data pages of a table, and answers whether none of them was marked before. All of them are known to be log
-// and data pages.
-// Example: of a table that is 0 but for elements 0 and 2, which are both 9, the answer is false.
-pub fn mark_table(table: &[u64; 128], pages: usize, inodes: usize, marks: &mut [u8; 4096]) -> bool
-    requires { ⌜ (all (inPages pages inodes) (mapped (now table) 0 128) ≡ true) × (pages ≤ 4096) ⌝ }
-    ensures { λ r. ⌜ Marked (now (marks .entry)) (mapped (now (table .entry)) 0 128) r (now (marks .exit)) ⌝ }
+// Marks the data pages of the first count file pages of a table, and answers whether none of them was marked before. All of
+// them are known to be log and data pages.
+// Example: of a table that is 0 but for elements 0 and 2, which are both 9, mark_table(table, 3, 16, 8, marks) is false.
+pub fn mark_table(
+    table: &[u64; 128],
+    count: usize,
+    pages: usize,
+    inodes: usize,
+    marks: &mut [u8; 4096],
+) -> bool
+    requires { ⌜ (count ≤ 128) × (all (inPages pages inodes) (mapped (now table) 0 count) ≡ true) × (pages ≤ 4096) ⌝ }
+    ensures { λ r. ⌜ Marked (now (marks .entry)) (mapped (now (table .entry)) 0 count) r (now (marks .exit)) ⌝ }
 {
     let mut i: usize = 0;
-    let mut left: usize = 128;
+    let mut left = count;
     while 0 < left {
         let d = get(table, i);
         i = i + 1;

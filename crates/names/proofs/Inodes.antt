@@ -8,7 +8,7 @@ use native.Mathlib.Numerals.{sub-one}
 use lib.ListN.{length, take, getD, set, replicate, length-set, length-replicate, getD-replicate}
 use lib.Seq.{getD-set-same, getD-set-other}
 use lib.Dec.{eqb}
-use borrow.Author.Tests.{eq-eqb, ne-eqb, lt-ltb, le-ltb, le-leb, lt-leb, ltb-true}
+use borrow.Author.Tests.{eq-eqb, ne-eqb, lt-ltb, le-ltb, le-leb, ltb-true}
 use Rattle.model.specs.Lists.{allBelow, valuesFrom, all, has}
 use Rattle.model.specs.Words.{Mem}
 use Rattle.model.specs.State.{inodes}
@@ -17,9 +17,9 @@ use Rattle.model.proofs.Tests.{by-bool, by-eq, and-left}
 use Rattle.model.proofs.Lists.{all-cons, all-imp, all-map, allBelow-same}
 use Rattle.model.proofs.Frame.Placed.{leadsIn, all-inodes}
 use Rattle.words.proofs.Cond.{asked-true, asked-false}
-use Rattle.names.specs.Places.{placesFrom, standing, Filled}
+use Rattle.directory.specs.Places.{placesFrom, standing, Filled}
 use Rattle.names.specs.Inodes.{below, validIn, inodesFrom, marked, markedFile}
-use Rattle.names.proofs.Table.{first-places, places-first, standing-length}
+use Rattle.directory.proofs.Table.{first-places, places-first, standing-length}
 
 -- Whether an inode is valid.
 
@@ -155,10 +155,6 @@ module _ (m : Mem) (L N n : ℕ) (t : List ℕ) (i : Filled m L n t) where
   leads-below = sym (all-map (below N) (λ (p : List ℕ × ℕ). p .1) (standing m (take n t))) ∙ ap (all (below N)) inodes-of
 
   module _ (u : Mem) where
-    pub names-many : 224 < n → false ≡ namesOk u N (standing m (take n t))
-    unfolding namesOk
-    names-many h = rw (standing-length m L t n i, lt-leb n 224 h)
-
     module _ (f : Bool) (e : f ≡ all (validIn u N) (inodesFrom m t 0 n)) where
       pub marks-in : not f ≡ false → N ≤ 256 → all (below 256) (inodesFrom m t 0 n) ≡ true
       unfolding validIn below
@@ -173,17 +169,17 @@ module _ (m : Mem) (L N n : ℕ) (t : List ℕ) (i : Filled m L n t) where
             e ∙ ap (all (validIn u N)) (sym inodes-of)
             ∙ all-inodes N (validIn u N) (isValid u) (standing m (take n t)) (leads-below ∙ b) (λ k h. rw (lt-ltb k N h))
 
-        pub names-invalid : n ≤ 224 → not f ≡ true → false ≡ namesOk u N (standing m (take n t))
+        pub names-invalid : not f ≡ true → false ≡ namesOk u N (standing m (take n t))
         unfolding namesOk
-        names-invalid h g =
-            rw (standing-length m L t n i, le-leb n 224 h, asked-false (all (isValid u) (inodes (standing m (take n t)))) f valid-all g)
+        names-invalid g =
+            rw (standing-length m L t n i, le-leb n 224 (i .few), asked-false (all (isValid u) (inodes (standing m (take n t)))) f valid-all g)
 
-        pub names-are : n ≤ 224 → not f ≡ false → N ≤ 256 → (x : List ℕ) (r : Bool) → x ≡ marked (replicate 256 0) (inodesFrom m t 0 n)
+        pub names-are : not f ≡ false → N ≤ 256 → (x : List ℕ) (r : Bool) → x ≡ marked (replicate 256 0) (inodesFrom m t 0 n)
             → r ≡ allBelow N (markedFile u x) → r ≡ namesOk u N (standing m (take n t))
         unfolding namesOk markedFile
-        names-are h g w x r d q =
+        names-are g w x r d q =
             let ks = inodesFrom m t 0 n in
             let same : allBelow N (markedFile u x) ≡ allBelow N (λ k. not (isFile u k) || has k ks) =
             allBelow-same N _ _ (λ k l. rw (d, marked-has ks k (omega arith) (marks-in g w))) in
-            rw (standing-length m L t n i, le-leb n 224 h, asked-true (all (isValid u) (inodes (standing m (take n t)))) f valid-all g, inodes-of)
+            rw (standing-length m L t n i, le-leb n 224 (i .few), asked-true (all (isValid u) (inodes (standing m (take n t)))) f valid-all g, inodes-of)
             (q ∙ same)

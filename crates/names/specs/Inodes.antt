@@ -7,7 +7,7 @@ use lib.ListN.{getD, set}
 use Rattle.model.specs.Words.{Mem}
 use Rattle.model.specs.Journal.{dequeueWord, enqueueWord}
 use Rattle.model.specs.Accept.{isValid, isFile}
-use Rattle.names.specs.Places.{placesFrom}
+use Rattle.directory.specs.Places.{placesFrom}
 
 -- What reading the valid words of N inodes asks for: m are the volume's words, L its length in bytes.
 pub record Readable (m : Mem) (L N : ℕ) : Type 0 where

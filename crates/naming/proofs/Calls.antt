@@ -1,11 +1,11 @@
 -- The calls by name: behind the gate and the call's first checks what is left is the append's outcome, with the call's entries.
-use Prim.Native.Nat.{ℕ, _+_, _*_, _≤_, _<_}
+use Prim.Native.Nat.{ℕ, _*_, _≤_, _<_}
 use mathlib.Core.Path.{_≡_, refl, sym, _∙_, ap}
-use mathlib.Core.Bool.{Bool, true, false, cond, not, _&&_}
-use mathlib.Core.List.{List, [], _∷_, _++_}
-use mathlib.Core.Option.{Option, some}
+use mathlib.Core.Bool.{true, false, not, _&&_}
+use mathlib.Core.List.{List, [], _∷_}
+use mathlib.Core.Option.{some}
 use native.Mathlib.Omega.{arith}
-use borrow.Author.Tests.{ltb-false, eqb-true, eqb-false, eq-eqb, ne-eqb, not-true, not-false}
+use borrow.Author.Tests.{ltb-false, eq-eqb, ne-eqb, not-false}
 use lib.Dec.{ltb, eqb}
 use lib.ListN.{length, take, replicate, length-replicate}
 use Rattle.model.specs.Lists.{orElse, isSome, count}
@@ -16,7 +16,7 @@ use Rattle.model.specs.Entry.{addWords, removeWords}
 use Rattle.model.specs.State.{Names, inodeOf, inodes, namesOf}
 use Rattle.model.specs.Stores.{storeList}
 use Rattle.model.specs.Accept.{accepted, logOk, viewOk}
-use Rattle.model.specs.FileMap.{Call, create, link, unlink, rename}
+use Rattle.model.specs.FileMap.{create, link, unlink, rename}
 use Rattle.model.specs.Answer as model
 use Rattle.model.specs.Answer.{refused, done, Checks, firstRefusal, mapAnswer, filledFrom}
 use Rattle.model.specs.Calls.{groups, createGroups, linkGroups, unlinkGroups, renameGroups, createAppend, linkAppend, unlinkAppend, renameAppend, invalidInode, release, sameInode, noRoom, entriesOnly}
@@ -29,7 +29,7 @@ use Rattle.model.proofs.Lengths.{create-short, link-short, unlink-short, rename
 use Rattle.model.proofs.State.NamesFine.{leads}
 use Rattle.model.proofs.State.NameEntries.{names-in}
 use Rattle.survey.proofs.Facts.{view-names}
-use Rattle.names.specs.Places.{standing}
+use Rattle.directory.specs.Places.{standing}
 use Rattle.links.proofs.Lowest.{inode-below, inode-some as inode-some-is}
 use Rattle.group.specs.Plan.{entriesOf}
 use Rattle.entries.specs.Table.{Put}
@@ -38,10 +38,11 @@ use Rattle.answer.specs.Meaning.{meaning, numbered}
 use Rattle.answer.specs.declared.Answer.{Answer}
 use Rattle.answer.specs.declared.Answer.the-variants.{Number}
 use Rattle.gate.specs.Gated.{rootNames, fillChecks, Gated}
-use Rattle.gate.proofs.Gates.{NoNumber, last-passes, same-number}
+use Rattle.gate.proofs.Gates.{last-passes, same-number}
+use Rattle.answer.proofs.Codes.{NoNumber}
 use Rattle.gate.proofs.Lists.{filledWords, fill-refused}
 use Rattle.checks.specs.Names.{firstInvalid, freeInode, createFirst, linkFirst, unlinkFirst, renameFirst}
-use Rattle.checks.proofs.Behind.{create-refused, create-behind, create-inode, link-refused, link-behind, link-inode, unlink-refused, unlink-behind, unlink-inode, rename-refused, rename-behind, rename-inode}
+use Rattle.checks.proofs.Behind.{create-refused, create-behind, link-refused, link-behind, link-inode, unlink-refused, unlink-behind, unlink-inode, rename-refused, rename-behind, rename-inode}
 use Rattle.naming.specs.Appended.{Closed, releasing, lastNamed, appendWords, newWords, outcome}
 
 -- a refusal is no done answer
@@ -55,7 +56,7 @@ none-holds (t ∷ ts) a n h =
     by-bool (t .0) (λ b. clash (t .1) (some n) (sym (rw b at h))) (λ b. (b, none-holds ts a n (rw b at h)))
 
 -- what the gate refuses, each call refuses
-module _ (v l : List ℕ) (r : Answer) (places marks : List ℕ) (g : Gated v (fillChecks (length v) (word v) (length l)) r places marks) (o : NoNumber r) where
+module _ (v l : List ℕ) (r : Answer) (places marks : List ℕ) (g : Gated v root (fillChecks (length v) (word v) (length l)) r places marks) (o : NoNumber r) where
   pub gate-create-answer : (x : List ℕ) → meaning r ≡ numbered (callAnswer v l (create x))
   gate-create-answer x = fill-refused v l (create x) refl r places marks g o .0
 
@@ -109,7 +110,7 @@ released-is u P N x =
     (λ t. rw t)
 
 -- r, places and marks are what the gate answered and left
-module _ (v l : List ℕ) (r : Answer) (places marks : List ℕ) (g : Gated v (fillChecks (length v) (word v) (length l)) r places marks) (n : ℕ) (e : r ≡ Number n) where
+module _ (v l : List ℕ) (r : Answer) (places marks : List ℕ) (g : Gated v root (fillChecks (length v) (word v) (length l)) r places marks) (n : ℕ) (e : r ≡ Number n) where
   abbrev m : Mem
   m = word v
 
@@ -389,7 +390,7 @@ module _ (v l : List ℕ) (r : Answer) (places marks : List ℕ) (g : Gated v (f
           rename-list l′ a = rw rename-comes a
 
 -- The same room for a list of L words, of which only the length is known.
-pub rename-fits : (v : List ℕ) (L : ℕ) (r : Answer) (places marks : List ℕ) → Gated v (fillChecks (length v) (word v) L) r places marks → (n : ℕ) → r ≡ Number n
+pub rename-fits : (v : List ℕ) (L : ℕ) (r : Answer) (places marks : List ℕ) → Gated v root (fillChecks (length v) (word v) L) r places marks → (n : ℕ) → r ≡ Number n
     → (x y : List ℕ) (t : Answer)
     → meaning t ≡ numbered (firstRefusal (renameFirst (standing (word v) (take n places)) x y) (done (inodeOf (standing (word v) (take n places)) x)))
     → (i : ℕ) → t ≡ Number i → (k : ℕ) → k ≡ inodeOf (standing (word v) (take n places)) y → (i ≡ k → ⊥) → (z : ℕ) → z ≡ lastNamed (standing (word v) (take n places)) k

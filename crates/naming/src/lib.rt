@@ -1,8 +1,7 @@
 // The calls that change names: create, link, unlink and rename. Each takes any bytes and numbers, works from the lent volume v alone and
 // fills a lent store list; a refusal leaves the list as it was.
 ghost use mathlib.Core.Path.{_≡_};
-ghost use mathlib.Core.List.{[], _∷_};
-ghost use Prim.Native.Nat.{_+_, _*_, _≤_, _<_};
+ghost use Prim.Native.Nat.{_≤_, _<_};
 ghost use lib.ListN.{length, replicate, take};
 ghost use Rattle.model.specs.Words.{word};
 ghost use Rattle.model.specs.Layout.{root};
@@ -10,7 +9,7 @@ ghost use Rattle.model.specs.Answer.{mapAnswer, filledFrom};
 ghost use Rattle.model.specs.Calls.{entriesOnly};
 ghost use Rattle.model.specs.FileMap.{create, link, unlink, rename};
 ghost use Rattle.model.specs.Public.{callAnswer, callList};
-ghost use Rattle.names.specs.Places.{standing, Filled};
+ghost use Rattle.directory.specs.Places.{standing, Filled};
 ghost use Rattle.group.specs.Plan.{entriesOf};
 ghost use Rattle.answer.specs.Meaning.{meaning, numbered};
 ghost use Rattle.naming.specs.Appended.{Closed, RootTaken, releasing, lastNamed, appendWords, newWords, outcome};
@@ -121,9 +120,9 @@ pub fn create(v: &[u8], name: &[u8], list: &mut [u64]) -> Answer
     ensures { λ r. ⌜ (meaning r ≡ numbered (callAnswer (now (v .entry)) (now (list .entry)) (create (now (name .entry)))))
         × (now (list .exit) ≡ callList (now (v .entry)) (now (list .entry)) (create (now (name .entry)))) ⌝ }
 {
-    let mut places = [0u16; 28672];
+    let mut places = [0u16; 224];
     let mut marks = [0u8; 4096];
-    let gate = gate::filling(v, list.len(), &mut places, &mut marks);
+    let gate = gate::filling(v, list.len(), gate::ROOT, &mut places, &mut marks);
     let Answer::Number(count) = gate else {
         return gate;
     };
@@ -145,9 +144,9 @@ pub fn link(v: &[u8], old: &[u8], new: &[u8], list: &mut [u64]) -> Answer
     ensures { λ r. ⌜ (meaning r ≡ numbered (callAnswer (now (v .entry)) (now (list .entry)) (link (now (old .entry)) (now (new .entry)))))
         × (now (list .exit) ≡ callList (now (v .entry)) (now (list .entry)) (link (now (old .entry)) (now (new .entry)))) ⌝ }
 {
-    let mut places = [0u16; 28672];
+    let mut places = [0u16; 224];
     let mut marks = [0u8; 4096];
-    let gate = gate::filling(v, list.len(), &mut places, &mut marks);
+    let gate = gate::filling(v, list.len(), gate::ROOT, &mut places, &mut marks);
     let Answer::Number(count) = gate else {
         return gate;
     };
@@ -162,7 +161,7 @@ pub fn link(v: &[u8], old: &[u8], new: &[u8], list: &mut [u64]) -> Answer
 
 // Answers the inode, if exactly one of the names at the first count places leads to it; else 0.
 // Example: where "A1" alone leads to inode 1, released(v, places, 1, 1) is 1; where "A2" does too, it is 0, and so is that of inode 0.
-fn released(v: &[u8], places: &[u16; 28672], count: usize, inode: u64) -> u64
+fn released(v: &[u8], places: &[u16; 224], count: usize, inode: u64) -> u64
     requires { ⌜ Filled (word (now v)) (length (now v)) count (now places) ⌝ }
     ensures { λ r. ⌜ r ≡ lastNamed (standing (word (now (v .entry))) (take count (now (places .entry)))) inode ⌝ }
 {
@@ -183,9 +182,9 @@ pub fn unlink(v: &[u8], name: &[u8], list: &mut [u64]) -> Answer
     ensures { λ r. ⌜ (meaning r ≡ numbered (callAnswer (now (v .entry)) (now (list .entry)) (unlink (now (name .entry)))))
         × (now (list .exit) ≡ callList (now (v .entry)) (now (list .entry)) (unlink (now (name .entry)))) ⌝ }
 {
-    let mut places = [0u16; 28672];
+    let mut places = [0u16; 224];
     let mut marks = [0u8; 4096];
-    let gate = gate::filling(v, list.len(), &mut places, &mut marks);
+    let gate = gate::filling(v, list.len(), gate::ROOT, &mut places, &mut marks);
     let Answer::Number(count) = gate else {
         return gate;
     };
@@ -208,9 +207,9 @@ pub fn rename(v: &[u8], old: &[u8], new: &[u8], list: &mut [u64]) -> Answer
     ensures { λ r. ⌜ (meaning r ≡ numbered (callAnswer (now (v .entry)) (now (list .entry)) (rename (now (old .entry)) (now (new .entry)))))
         × (now (list .exit) ≡ callList (now (v .entry)) (now (list .entry)) (rename (now (old .entry)) (now (new .entry)))) ⌝ }
 {
-    let mut places = [0u16; 28672];
+    let mut places = [0u16; 224];
     let mut marks = [0u8; 4096];
-    let gate = gate::filling(v, list.len(), &mut places, &mut marks);
+    let gate = gate::filling(v, list.len(), gate::ROOT, &mut places, &mut marks);
     let Answer::Number(count) = gate else {
         return gate;
     };

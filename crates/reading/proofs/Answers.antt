@@ -1,7 +1,7 @@
 -- The calls that read a volume: behind the gate the call's own checks decide, and the gate's tables hold what the rest is read from.
 use Prim.Native.Nat.{ℕ, zero, suc, _+_, _-_, _*_, min, _≤_, _<_}
 use mathlib.Core.Path.{_≡_, refl, sym, _∙_, ap}
-use mathlib.Core.Bool.{Bool, true, false, cond, not, _||_}
+use mathlib.Core.Bool.{Bool, true, false, not}
 use mathlib.Core.List.{List, [], _∷_, _++_, map}
 use mathlib.Core.Option.{Option, some}
 use native.Mathlib.Omega.{arith}
@@ -23,9 +23,9 @@ use Rattle.model.specs.Public.{closedChecks, find, size, read, kthName, countFr
 use Rattle.model.proofs.Lists.{length-values}
 use Rattle.model.proofs.Log.Decode.{length-padded}
 use Rattle.model.proofs.Crash.Journal.{closed-view}
-use Rattle.names.specs.Fields.{nameAt}
-use Rattle.names.specs.Places.{standing, placeOk}
-use Rattle.names.proofs.Table.{standing-length}
+use Rattle.directory.specs.Fields.{nameAt}
+use Rattle.directory.specs.Places.{standing, placeOk}
+use Rattle.directory.proofs.Table.{standing-length}
 use Rattle.lookup.proofs.Places.{place-ok}
 use Rattle.files.specs.State.{fileFrom}
 use Rattle.inodes.specs.Judged.{unmarkedCount}
@@ -34,8 +34,9 @@ use Rattle.answer.specs.Meaning.{meaning, numbered}
 use Rattle.answer.specs.declared.Answer.{Answer}
 use Rattle.answer.specs.declared.Answer.the-variants.{Number}
 use Rattle.gate.specs.Gated.{rootNames, Gated}
-use Rattle.gate.proofs.Gates.{NoNumber, refusal-of, checks-after, same-refusal, none-refuses, gate-refused, gate-passed, gate-pages}
-use Rattle.state.specs.Stated.{FileState, Stated}
+use Rattle.gate.proofs.Gates.{refusal-of, same-refusal, none-refuses, gate-refused, gate-passed, gate-pages}
+use Rattle.answer.proofs.Codes.{NoNumber}
+use Rattle.state.specs.Stated.{Stated}
 
 -- an element of a list that was mapped
 getD-map : {A B : Type 0} (f : A → B) (l : List A) (i : ℕ) (a : A) (b : B) → i < length l → getD (map f l) i b ≡ f (getD l i a)
@@ -124,7 +125,7 @@ module _ (v l : List ℕ) (k o : ℕ) where
       read-laid w h = rw (values, length-values) h
 
 -- r is what the gate answered of v, and places and marks are what it left
-module _ (v : List ℕ) (r : Answer) (places marks : List ℕ) (g : Gated v (closedChecks (length v) (word v)) r places marks) where
+module _ (v : List ℕ) (r : Answer) (places marks : List ℕ) (g : Gated v root (closedChecks (length v) (word v)) r places marks) where
   pub find-refused : (n : List ℕ) → NoNumber r → meaning r ≡ numbered (findAnswer v n)
   unfolding findAnswer find
   find-refused n o = gate-refused v _ r places marks g some _ _ o
@@ -196,7 +197,7 @@ module _ (v : List ℕ) (r : Answer) (places marks : List ℕ) (g : Gated v (clo
       pub kth-laid : (p : ℕ) (w : List ℕ) → k < n → p ≡ getD places k 0 → w ≡ padded (nameAt (word v) (8 * p)) ++ drop 32 l → w ≡ kthNameBuffer v k l
       kth-laid p w q j z = done-buffer v l k (nameAt (word v) (8 * p)) (kth-is p q j) w (name-short (word v) (8 * p)) z
 
-      pub kth-few : k < n → k < 28672
+      pub kth-few : k < n → k < 224
       kth-few q = let few = g .tables n e .filled .few in omega arith
 
     -- the k-th place

@@ -11,9 +11,9 @@ use answer::Answer;
 pub fn free_count(v: &[u8]) -> Answer
     ensures { λ r. ⌜ meaning r ≡ numbered (freeAnswer (now (v .entry))) ⌝ }
 {
-    let mut places = [0u16; 28672];
+    let mut places = [0u16; 224];
     let mut marks = [0u8; 4096];
-    let gate = gate::closed(v, &mut places, &mut marks);
+    let gate = gate::closed(v, gate::ROOT, &mut places, &mut marks);
     let Answer::Number(_) = gate else {
         return gate;
     };
@@ -28,9 +28,9 @@ pub fn free_count(v: &[u8]) -> Answer
 pub fn find(v: &[u8], name: &[u8]) -> Answer
     ensures { λ r. ⌜ meaning r ≡ numbered (findAnswer (now (v .entry)) (now (name .entry))) ⌝ }
 {
-    let mut places = [0u16; 28672];
+    let mut places = [0u16; 224];
     let mut marks = [0u8; 4096];
-    let gate = gate::closed(v, &mut places, &mut marks);
+    let gate = gate::closed(v, gate::ROOT, &mut places, &mut marks);
     let Answer::Number(count) = gate else {
         return gate;
     };
@@ -56,16 +56,16 @@ pub fn kth_name(v: &[u8], k: u64, buffer: &mut [u8]) -> Answer
     if buffer.len() < 32 {
         return Answer::ShortMemory;
     }
-    let mut places = [0u16; 28672];
+    let mut places = [0u16; 224];
     let mut marks = [0u8; 4096];
-    let gate = gate::closed(v, &mut places, &mut marks);
+    let gate = gate::closed(v, gate::ROOT, &mut places, &mut marks);
     let Answer::Number(count) = gate else {
         return gate;
     };
     if count <= k {
         return Answer::NotThere;
     }
-    let place = names::place(&places, k as usize);
+    let place = directory::place(&places, k as usize);
     Answer::Number(lookup::lay_name(v, place, buffer))
 }
 

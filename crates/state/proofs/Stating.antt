@@ -1,33 +1,33 @@
 -- The gate's checks come first; a file of an accepted volume has a log that is good, so that its state is what the log means.
 use Prim.Native.Nat.{ℕ, _<_}
-use mathlib.Core.Path.{_≡_, refl, sym, _∙_, ap}
+use mathlib.Core.Path.{_≡_, sym, _∙_, ap}
 use mathlib.Core.Bool.{Bool, true, false, not, _||_}
-use mathlib.Core.List.{List, [], _∷_}
+use mathlib.Core.List.{List}
 use mathlib.Core.Option.{some}
 use native.Mathlib.Omega.{arith}
 use lib.Dec.{leb}
 use lib.ListN.{length}
 use Rattle.model.specs.Words.{word}
-use Rattle.model.specs.Journal.{isOpen, journalOk, view}
-use Rattle.model.specs.State.{fileOf}
+use Rattle.model.specs.Layout.{root}
+use Rattle.model.specs.Journal.{journalOk, view}
+use Rattle.model.specs.State.{File, fileOf}
 use Rattle.model.specs.Accept.{isFile, logOk, viewOk, accepted}
-use Rattle.model.specs.Answer.{refused, done, notThere}
+use Rattle.model.specs.Answer.{refused}
 use Rattle.model.specs.Calls.{noFile}
 use Rattle.model.specs.Public.{closedChecks, size, sizeAnswer}
 use Rattle.model.proofs.Tests.{and-right}
-use Rattle.files.specs.State.{Folds}
-use Rattle.files.specs.declared.Folded.{Folded}
-use Rattle.files.specs.declared.Folded.the-variants.{Size, Bad}
-use Rattle.answer.specs.Meaning.{meaning, numbered}
+use Rattle.files.specs.State.{fileFrom}
+use Rattle.answer.specs.Meaning.{meaning}
 use Rattle.answer.specs.declared.Answer.{Answer}
-use Rattle.answer.specs.declared.Answer.the-variants.{Number, NotThere, Damaged}
+use Rattle.answer.specs.declared.Answer.the-variants.{Number, NotThere}
 use Rattle.gate.specs.Gated.{Gated}
-use Rattle.gate.proofs.Gates.{NoNumber, no-number, gate-refused, gate-passed, gate-closed}
+use Rattle.gate.proofs.Gates.{no-number, gate-refused, gate-passed, gate-closed}
+use Rattle.answer.proofs.Codes.{NoNumber}
 use Rattle.state.specs.Stated.{FileState, Stated}
-use Rattle.state.proofs.Sizes.{there-below, there-file-0, there-valid, file-log, state-size, state-good}
+use Rattle.state.proofs.Sizes.{there-below, there-file-0, there-valid, file-log}
 
 -- g is what the gate answered and left
-module _ (v : List ℕ) (r : Answer) (places marks : List ℕ) (g : Gated v (closedChecks (length v) (word v)) r places marks) (k : ℕ) where
+module _ (v : List ℕ) (r : Answer) (places marks : List ℕ) (g : Gated v root (closedChecks (length v) (word v)) r places marks) (k : ℕ) where
   pub state-refused : (t : List ℕ) → NoNumber r → Stated v k r marks t
   unfolding sizeAnswer size
   state-refused t o =
@@ -56,37 +56,33 @@ module _ (v : List ℕ) (r : Answer) (places marks : List ℕ) (g : Gated v (clo
       pub file-above : 0 < k
       file-above = there-file-0 (view (word v)) N k is-file
 
-      good-log : logOk (view (word v)) P N k ≡ true
+      pub good-log : logOk (view (word v)) P N k ≡ true
       unfolding accepted
       good-log =
           let w : viewOk (view (word v)) P N ≡ true = rw (p, q) (and-right (journalOk (word v) (word v 1)) _ (g .tables n e .good)) in
           file-log (view (word v)) P N k w file-below (there-valid (view (word v)) N k is-file)
 
-      -- x and t are what `file_state` answered and left
-      module _ (x : Folded) (t : List ℕ) (f : Folds (logOk (view (word v)) P N k) (fileOf (view (word v)) P N k) x t) where
-        pub state-bad : x ≡ Bad → Stated v k Damaged marks t
-        state-bad z = state-good _ _ x t f good-log z
+      -- s and t are what `judged_file` answered and left
+      module _ (s : ℕ) (t : List ℕ) (f : fileFrom s t ≡ fileOf (view (word v)) P N k) where
+        is-size : s ≡ fileOf (view (word v)) P N k .size
+        is-size = ap (λ (x : File). x .size) f
 
-        module _ (s : ℕ) (z : x ≡ Size s) where
-          is-size : s ≡ fileOf (view (word v)) P N k .size
-          is-size = state-size _ _ x t f good-log s z
+        state-is : FileState v k s marks t
+        unfolding noFile
+        state-is =
+            record {
+              volume = g .tables n e .volume;
+              good = g .tables n e .good;
+              closed = gate-closed v r places marks g n e;
+              there = rw (← q) is-file;
+              file = rw (← p, ← q) f;
+              served = g .tables n e .served;
+            }
 
-          state-is : FileState v k s marks t
-          unfolding noFile
-          state-is =
-              record {
-                volume = g .tables n e .volume;
-                good = g .tables n e .good;
-                closed = gate-closed v r places marks g n e;
-                there = rw (← q) is-file;
-                file = rw (is-size, ← p, ← q) (f .file good-log);
-                served = g .tables n e .served;
-              }
-
-          pub state-there : Stated v k (Number s) marks t
-          unfolding sizeAnswer size noFile
-          state-there =
-              record {
-                answer = rw (gate-passed v _ r places marks g n e, ← q, is-file, ← p, is-size);
-                state = λ i b. let j : s ≡ i = cc in rw (← j) state-is;
-              }
+        pub state-there : Stated v k (Number s) marks t
+        unfolding sizeAnswer size noFile
+        state-there =
+            record {
+              answer = rw (gate-passed v _ r places marks g n e, ← q, is-file, ← p, is-size);
+              state = λ i b. let j : s ≡ i = cc in rw (← j) state-is;
+            }

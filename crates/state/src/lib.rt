@@ -16,16 +16,10 @@ fn no_file(v: &[u8], inode: u64, inodes: u64) -> bool
     requires { ⌜ Readable (word (now v)) (length (now v)) inodes ⌝ }
     ensures { λ r. ⌜ r ≡ leb inodes inode || not (isFile (view (word (now (v .entry)))) inode) ⌝ }
 {
-    if inodes <= inode {
-        return true;
-    }
     if inode == 0 {
         return true;
     }
-    if journal::viewed(v, 64 + 8 * (inode as usize)) == 1 {
-        return false;
-    }
-    true
+    !names::is_valid(v, inode as usize, inodes as usize)
 }
 
 // Judges a volume, its journal and an inode, and reads the state of the inode's file: table gets its data pages, 0 for a file page
@@ -37,8 +31,8 @@ pub fn file(v: &[u8], inode: u64, marks: &mut [u8; 4096], table: &mut [u64; 128]
     requires { ⌜ (now marks ≡ replicate 4096 0) × (now table ≡ replicate 128 0) ⌝ }
     ensures { λ r. ⌜ Stated (now (v .entry)) inode r (now (marks .exit)) (now (table .exit)) ⌝ }
 {
-    let mut places = [0u16; 28672];
-    let gate = gate::closed(v, &mut places, marks);
+    let mut places = [0u16; 224];
+    let gate = gate::closed(v, gate::ROOT, &mut places, marks);
     let Answer::Number(_) = gate else {
         return gate;
     };
@@ -47,9 +41,6 @@ pub fn file(v: &[u8], inode: u64, marks: &mut [u8; 4096], table: &mut [u64; 128]
     if no_file(v, inode, inodes) {
         return Answer::NotThere;
     }
-    let state = files::file_state(v, inode as usize, pages as usize, inodes as usize, table);
-    match state {
-        files::Folded::Size(n) => Answer::Number(n),
-        files::Folded::Bad => Answer::Damaged,
-    }
+    let size = files::judged_file(v, inode as usize, pages as usize, inodes as usize, table);
+    Answer::Number(size)
 }

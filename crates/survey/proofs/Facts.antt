@@ -1,30 +1,26 @@
 -- An accepted volume, judged in the code's order: the journal, the directory's log with its names, then every inode and every page.
-use Prim.Native.Nat.{ℕ, _+_, _*_, _/_, _%_, _≤_, _<_}
-use mathlib.Core.Path.{_≡_, refl, sym, _∙_}
+use Prim.Native.Nat.{ℕ, _≤_, _<_}
+use mathlib.Core.Path.{_≡_, sym, _∙_}
 use mathlib.Core.Bool.{Bool, true, false, not, _&&_}
 use mathlib.Core.List.{List}
 use native.Mathlib.Omega.{arith}
-use lib.ListN.{length, take}
-use borrow.Author.Tests.{not-true, not-false}
+use lib.ListN.{length}
+use borrow.Author.Tests.{eqb-true, not-true, not-false}
 use Rattle.model.specs.Lists.{allBelow}
 use Rattle.model.specs.Words.{Mem, word}
-use Rattle.model.specs.Layout.{root}
+use Rattle.model.specs.Layout.{root, isDirectory}
 use Rattle.model.specs.Journal.{view, journalOk}
 use Rattle.model.specs.State.{namesOf}
 use Rattle.model.specs.Accept.{validOk, isValid, logOk, namesOk, servesOnce, inodeOk, viewOk, accepted}
 use Rattle.model.specs.Public.{isVolume}
-use Rattle.model.proofs.Tests.{by-bool, no, clash, not-true-false, ands}
+use Rattle.model.proofs.Tests.{by-bool, no, clash, not-true-false, and-left, ands}
 use Rattle.model.proofs.Lists.{allBelow-at}
 use Rattle.model.proofs.Crash.Journal.{journal-parts}
 use Rattle.model.proofs.Crash.Landing.{Sizes, sizes-parts, Volume, volume-parts}
 use Rattle.log.specs.Ready.{Ready}
-use Rattle.names.specs.Places.{standing, Filled}
-use Rattle.names.specs.Folds.{Folds}
-use Rattle.names.specs.declared.Named.{Named}
-use Rattle.names.specs.declared.Named.the-variants.{Count, Bad}
-use Rattle.names.proofs.Judged.{count-ok, count-filled, count-names, bad-not}
+use Rattle.directory.specs.Folds.{Folds}
+use Rattle.directory.specs.declared.Named.{Named}
 use Rattle.inodes.specs.Judged.{Served}
-use Rattle.survey.specs.declared.Found.{Found}
 use Rattle.survey.specs.Surveyed.{Surveyed}
 
 -- a directory that is fine has a log that is fine
@@ -74,9 +70,9 @@ module _ (v : List ℕ) (P N : ℕ) (is-volume : isVolume (length v) (word v) �
   -- What `journal_ok` answered, j.
   module _ (j : Bool) (g : j ≡ journalOk (word v) N) where
     -- a journal that is not good
-    pub no-journal : (a b : List ℕ) → not j ≡ true → Surveyed (word v) (length v) (record { accepted = false; names = 0 }) a b
+    pub no-journal : (d : ℕ) (a b : List ℕ) → not j ≡ true → Surveyed (word v) (length v) d (record { accepted = false; names = 0 }) a b
     unfolding accepted
-    no-journal a b h =
+    no-journal d a b h =
         record {
           answer = rw (← inodes, sym g ∙ not-true j h);
           filled = λ e. no e;
@@ -104,33 +100,42 @@ module _ (v : List ℕ) (P N : ℕ) (is-volume : isVolume (length v) (word v) �
             room = s .room;
           }
 
-      -- What `accepted_names` answered, x, with the table t.
-      module _ (x : Named) (t : List ℕ)
-          (f : Folds (word v) (length v) (logOk (view (word v)) P N root && namesOk (view (word v)) N (namesOf (view (word v)) P N root))
-          (namesOf (view (word v)) P N root) x t) where
-        -- c names
-        module _ (c : ℕ) (h : x ≡ Count c) where
+      -- What `accepted_names` answered of directory d, x, with the table t.
+      module _ (d : ℕ) (dir : isDirectory d ≡ true) (x : Named) (t : List ℕ)
+          (f : Folds (word v) (length v) (logOk (view (word v)) P N d && namesOk (view (word v)) N (namesOf (view (word v)) P N d))
+          (namesOf (view (word v)) P N d) x t) where
+        is-root : d ≡ root
+        is-root = eqb-true d root dir
+
+        names-good : x .good ≡ logOk (view (word v)) P N root && namesOk (view (word v)) N (namesOf (view (word v)) P N root)
+        names-good = rw (← is-root) (f .good)
+
+        -- a directory that is good
+        module _ (h : not (x .good) ≡ false) where
+          root-good : logOk (view (word v)) P N root && namesOk (view (word v)) N (namesOf (view (word v)) P N root) ≡ true
+          root-good = sym names-good ∙ not-false (x .good) h
+
           pub directory-log : logOk (view (word v)) P N root ≡ true
-          directory-log = let o = count-ok _ _ _ _ _ _ f c h in search (o, ands)
+          directory-log = and-left (logOk (view (word v)) P N root) (namesOk (view (word v)) N (namesOf (view (word v)) P N root)) root-good
 
           pub found : (r : Bool) (b : List ℕ) → Served (view (word v)) P N r b
-              → Surveyed (word v) (length v) (record { accepted = r; names = c }) t b
+              → Surveyed (word v) (length v) d (record { accepted = r; names = x .count }) t b
           unfolding accepted
           found r b s =
               record {
-                answer = rw (← pages, ← inodes, good-journal) (view-rest _ _ _ r (count-ok _ _ _ _ _ _ f c h) (s .answer));
-                filled = λ e. count-filled _ _ _ _ _ _ f c h;
-                names = λ e. rw (← pages, ← inodes) (count-names _ _ _ _ _ _ f c h);
+                answer = rw (← pages, ← inodes, good-journal) (view-rest (view (word v)) P N r root-good (s .answer));
+                filled = λ e. f .filled (not-false (x .good) h);
+                names = λ e. rw (← pages, ← inodes) (f .names (not-false (x .good) h));
                 served = λ e. rw (← pages, ← inodes) (rw e at s);
               }
 
         -- a directory that is not good
-        pub no-names : (b : List ℕ) → x ≡ Bad → Surveyed (word v) (length v) (record { accepted = false; names = 0 }) t b
+        pub no-names : (b : List ℕ) → not (x .good) ≡ true → Surveyed (word v) (length v) d (record { accepted = false; names = 0 }) t b
         unfolding accepted
         no-names b h =
             record {
               answer = rw (← pages, ← inodes, good-journal) (sym (not-true-false (viewOk (view (word v)) P N)
-                  (λ e. clash _ (view-names _ _ _ some-inodes e) (bad-not _ _ _ _ _ _ f h))));
+                  (λ e. clash _ (view-names (view (word v)) P N some-inodes e) (sym names-good ∙ not-true (x .good) h))));
               filled = λ e. no e;
               names = λ e. no e;
               served = λ e. no e;

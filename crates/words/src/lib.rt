@@ -15,10 +15,18 @@ fn first_byte(w: usize) -> usize
 
 // Answers a byte as a number of 64 bits.
 // Example: wide(255) is 255.
-fn wide(x: u8) -> u64
+pub fn wide(x: u8) -> u64
     ensures { λ r. ⌜ (r ≡ x) × (r < 256) ⌝ }
 {
     x as u64
+}
+
+// Answers a number of 16 bits as an index.
+// Example: wide_index(65535) is 65535.
+pub fn wide_index(x: u16) -> usize
+    ensures { λ r. ⌜ (r ≡ x) × (r < 65536) ⌝ }
+{
+    x as usize
 }
 
 // Reads the 8 bytes from byte b on, the lowest first, and answers the number that they make.

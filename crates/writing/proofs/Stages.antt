@@ -22,7 +22,8 @@ use Rattle.answer.specs.Meaning.{meaning, numbered}
 use Rattle.answer.specs.declared.Answer.{Answer}
 use Rattle.answer.specs.declared.Answer.the-variants.{Number, ShortMemory, LongWrite, PastTheEnd}
 use Rattle.gate.specs.Gated.{fillChecks}
-use Rattle.gate.proofs.Gates.{NoNumber, refusal-of, same-refusal, none-refuses}
+use Rattle.gate.proofs.Gates.{refusal-of, same-refusal, none-refuses}
+use Rattle.answer.proofs.Codes.{NoNumber}
 use Rattle.gate.proofs.Lists.{filledWords, ownChecks, comes}
 use Rattle.state.specs.Stated.{FileState, Stated}
 use Rattle.writing.specs.Written.{appendWords, appendFills, writeOf, sizeOf, Comes, Resized}

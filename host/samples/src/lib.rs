@@ -1,7 +1,7 @@
 //! What the tests of the workspace share: volumes, calls and numbers.
 //!
 //! A test of the reference model and a test of the compiled calls take their volumes from the same
-//! makers: by hand ([`sample`], [`put_log`]), by random calls and power cuts ([`used_volume`],
+//! makers: by hand ([`sample`], [`put_log`], [`DirectoryLog`]), by random calls and power cuts ([`used_volume`],
 //! [`any_call`]), put together at random ([`made_up`]), damaged ([`change_live_word`],
 //! [`flip_live_bit`]), and noise ([`headed_noise`]). What is random comes from a [`Random`] alone, so that a seed gives the same
 //! volumes again. Document 01's cases are rows of one table ([`cases()`]), for any library of the calls.
@@ -22,6 +22,7 @@ mod by_hand;
 mod calls;
 mod cases;
 mod damage;
+mod directory_logs;
 mod made_up;
 mod noise;
 mod numbers;
@@ -36,6 +37,11 @@ pub use calls::{
 };
 pub use cases::{cases, check_case, Before, CarryOut, Case, Library};
 pub use damage::{change_live_word, flip_live_bit, live_words};
+pub use directory_logs::{
+    added_again, added_and_removed, home, largest_log, names_one_byte_apart, names_with_homes,
+    nearly_same_names, size_of, varied_name, varied_names, DirectoryLog, MOST_DIFFERENT,
+    MOST_ENTRIES, NOWHERE,
+};
 pub use made_up::{made_up, made_up_sized};
 pub use noise::headed_noise;
 pub use numbers::{any_name, any_number, NUMBERS};

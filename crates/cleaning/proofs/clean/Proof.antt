@@ -19,13 +19,13 @@ clean-spec =
     (λ c κs.
     let g = c .before .before .before .before .before .before .before .before .before .filling .ensures in
     let q = c .before .before .before .before .before .word-at .ensures in
-    let a = c .before .before .before .before .not-valid .ensures in
+    let a = c .before .before .before .before .is-valid .ensures in
     clean-there _ _ _ _ _ g _ (search) _ _ q _ a (c .before .before .before .if1 .left))
     (λ c. search)
     (λ c.
     let g = c .before .before .before .before .before .before .before .before .before .before .before .before .filling .ensures in
     let e = c .before .before .before .before .before .before .before .before .before .before .gate .given .1 in
     let q = c .before .before .before .before .before .before .before .before .word-at .ensures in
-    let a = c .before .before .before .before .before .before .before .not-valid .ensures in
+    let a = c .before .before .before .before .before .before .before .is-valid .ensures in
     let r = c .before .before .clean-log in
     clean-whole _ _ _ _ _ g _ e _ _ q _ a (c .before .before .before .before .before .before .if1 .left) (r .result) _ (r .ensures)))

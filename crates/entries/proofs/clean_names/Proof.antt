@@ -7,7 +7,7 @@ use lib.Seq.{slice}
 use borrow.Author.Needs.{needs}
 use Rattle.model.specs.Words.{word}
 use Rattle.model.specs.Calls.{cleanNames}
-use Rattle.names.specs.Places.{standing}
+use Rattle.directory.specs.Places.{standing}
 use Rattle.lookup.proofs.Places.{here-in, here-field}
 use Rattle.group.specs.Plan.{entriesOf}
 use Rattle.entries.proofs.Names.{names-next, names-end}

@@ -17,15 +17,15 @@ use Rattle.files.proofs.fold_file.Statement.{statement}
 use Rattle.files.proofs.fold_file.Tie as tie
 
 abbrev Inv-loop : tie.InvT-loop
-Inv-loop v end pages inodes table₀ c₀ size₀ left₀ table c size left =
-    let left-over = entriesFrom left (word v) (c .at) end in
-    let whole = entriesFrom (7 * pages) (word v) (c₀ .at) end in
-    (left ≤ 7 * pages) × (length table ≡ 128) × (within left (word v) pages (c .at) end ≡ true)
-    × (all (fileEntryOk pages inodes) left-over ≡ all (fileEntryOk pages inodes) whole)
-    × (foldl fileStep (fileFrom size table) left-over ≡ foldl fileStep (fileFrom 0 table₀) whole)
+Inv-loop v inodes table₀ end pages c₀ size₀ left₀ table c size left =
+    let rest = entriesFrom left (word v) (c .at) end in
+    let whole = entriesFrom left₀ (word v) (c₀ .at) end in
+    (512 * pages ≤ length v) × (pages ≤ 4096) × (length table ≡ 128) × (within left (word v) pages (c .at) end ≡ true)
+    × (all (fileEntryOk pages inodes) rest ≡ all (fileEntryOk pages inodes) whole)
+    × (foldl fileStep (fileFrom size table) rest ≡ foldl fileStep (fileFrom 0 table₀) whole)
 
 abbrev μ-loop : tie.MeasureT-loop
-μ-loop v end pages inodes table₀ c₀ size₀ left₀ table c size left = left
+μ-loop v inodes table₀ end pages c₀ size₀ left₀ table c size left = left
 
 pub fold-file-spec : {M : Type 1} → statement M
 fold-file-spec =

@@ -1,30 +1,18 @@
--- The loop's invariant: the first n bytes are zero if and only if all are.
-use Prim.Native.Nat.{_≤_}
-use mathlib.Core.Path.{_≡_}
+-- The words and the bytes before them are all the bytes; a word is 0 exactly if its bytes are, since the volume's bytes are below 256.
+use native.Mathlib.Omega.{arith}
 use borrow.Author.Needs.{needs}
-use Rattle.model.specs.Words.{word}
-use Rattle.files.specs.State.{zerosAt}
-use Rattle.files.proofs.Ends.{zero-next, zero-bad, zero-end}
+use Rattle.files.proofs.Ends.{words-not, words-then}
 use Rattle.files.proofs.zeros_at.Statement.{statement}
 use Rattle.files.proofs.zeros_at.Tie as tie
-
-abbrev Inv-loop : tie.InvT-loop
-Inv-loop v b count n₀ n = (n ≤ count) × (zerosAt (word v) b n ≡ zerosAt (word v) b count)
-
-abbrev μ-loop : tie.MeasureT-loop
-μ-loop v b count n₀ n = n
 
 pub zeros-at-spec : {M : Type 1} → statement M
 zeros-at-spec =
     tie.close
     (tie.spec
-    Inv-loop
-    μ-loop
-    (λ c. search needs)
-    (λ c. search needs)
     (λ c. search needs)
     (λ c κs. search needs)
-    (λ c. search (zero-bad, needs))
-    (λ c. search needs)
-    (λ c. search (zero-next, needs))
-    (λ c. search (zero-end, needs)))
+    (λ c. words-not _ (λ j. omega (arith, c .before .before .shared-slice-known .given j)) _ _ (search) _ (c .before .zero-words .ensures) (search))
+    (λ c κs. search needs)
+    (λ c.
+    words-then _ (λ j. omega (arith, c .before .before .before .shared-slice-known .given j)) _ _ (search) _
+    (c .before .before .zero-words .ensures) _ (search) (search)))

@@ -1,20 +1,19 @@
--- The loop's invariant: the text of the pages that are left, put in from here on, gives the text of the group.
-use Prim.Native.Nat.{_*_, _-_, _≤_}
+-- The loop's invariant: the text of the words that are left, put in from here on, gives the text of the group.
+use Prim.Native.Nat.{_*_, _-_}
 use native.Mathlib.Omega.{arith}
-use borrow.Author.Needs.{needs}
 use Rattle.model.specs.Stores.{listed}
 use Rattle.stores.proofs.Emitting.{Rest}
 use Rattle.group.specs.Plan.{planStores}
-use Rattle.group.proofs.Pages.{pages-within, pages-less, pagesFrom, pages-start, pages-room, pages-next, pages-end}
+use Rattle.group.proofs.Next.{wordsFrom, words-start, words-end, words-room, words-store, jump-less, jump-kept}
 use Rattle.group.proofs.emit_group.Statement.{statement}
 use Rattle.group.proofs.emit_group.Tie as tie
 
 abbrev Inv-loop : tie.InvT-loop
-Inv-loop list₀ at singles pages words fresh plan n a₀ p₀ list a p =
-    (p ≤ n) × Rest list₀ at (listed (planStores plan singles pages words fresh) (64 * n) 0) list a (pagesFrom (planStores plan singles pages words fresh) n p)
+Inv-loop list₀ at singles pages words fresh plan n end a₀ w₀ list a w =
+    Rest list₀ at (listed (planStores plan singles pages words fresh) (64 * n) 0) list a (wordsFrom (planStores plan singles pages words fresh) (64 * n) w)
 
 abbrev μ-loop : tie.MeasureT-loop
-μ-loop list₀ at singles pages words fresh plan n a₀ p₀ list a p = n - p
+μ-loop list₀ at singles pages words fresh plan n end a₀ w₀ list a w = 64 * n - w
 
 pub emit-group-spec : {M : Type 1} → statement M
 emit-group-spec =
@@ -22,12 +21,18 @@ emit-group-spec =
     (tie.spec
     Inv-loop
     μ-loop
+    (λ c. omega arith)
+    (λ c. search words-start)
     (λ c κs. search)
-    (λ c. (search pages-within, search pages-start))
-    (λ c κs. search (pages-room, needs))
+    (λ c. search)
     (λ c. omega arith)
     (λ c κs. search)
-    (λ c. search pages-less)
-    (λ c. (search pages-within, search pages-next))
+    (λ c. search jump-less)
+    (λ c. search jump-kept)
     (λ c. search)
-    (λ c. search pages-end))
+    (λ c κs. search words-room)
+    (λ c. omega arith)
+    (λ c. omega arith)
+    (λ c. search words-store)
+    (λ c. search)
+    (λ c. search words-end))

@@ -12,5 +12,6 @@ judge-end-spec =
     (λ c. search (end-not, needs))
     (λ c κs. search (log-some, needs))
     (λ c. search (log-not, needs))
+    (λ c κs. search (end-size, needs))
     (λ c κs. search (table-in, needs))
     (λ c. search (table-is, needs)))

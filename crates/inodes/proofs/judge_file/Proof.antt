@@ -9,8 +9,6 @@ judge-file-spec =
     tie.close
     (tie.spec
     (λ c κs. search needs)
-    (λ c. search needs)
+    (λ c. search file-bad)
     (λ c κs. search (state-good, state-file, needs))
-    (λ c. search needs)
-    (λ c. search (file-good, needs))
-    (λ c. search (file-bad, needs)))
+    (λ c. search file-good))

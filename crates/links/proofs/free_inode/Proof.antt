@@ -21,11 +21,9 @@ free-inode-spec =
     Inv-loop
     μ-loop
     (λ c. search needs)
-    (λ c. search needs)
-    (λ c. search needs)
     (λ c κs. search needs)
-    (λ c. search (invalid-here, needs))
+    (λ c. search invalid-here)
     (λ c. search needs)
     (λ c. search needs)
-    (λ c. search (invalid-next, needs))
+    (λ c. search invalid-next)
     (λ c. search (invalid-none, needs)))

@@ -7,8 +7,8 @@ use borrow.Author.Needs.{needs}
 use Rattle.model.specs.Lists.{all, count as times}
 use Rattle.model.specs.Words.{word}
 use Rattle.model.specs.State.{inodes}
-use Rattle.names.specs.Places.{placesFrom, placeOk, standing}
-use Rattle.names.proofs.Table.{places-start, place-in, places-skip}
+use Rattle.directory.specs.Places.{placesFrom, placeOk, standing}
+use Rattle.directory.proofs.Table.{places-start, place-in, places-skip}
 use Rattle.links.proofs.Counted.{leading, counted-start, counted-one, counted-other, counted-end}
 use Rattle.links.proofs.names_of.Statement.{statement}
 use Rattle.links.proofs.names_of.Tie as tie

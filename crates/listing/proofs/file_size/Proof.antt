@@ -1,6 +1,6 @@
 -- The file's log is good, so that its state is what the log means.
 use borrow.Author.Needs.{needs}
-use Rattle.listing.proofs.Files.{size-is, size-good}
+use Rattle.listing.proofs.Files.{size-is}
 use Rattle.listing.proofs.file_size.Statement.{statement}
 use Rattle.listing.proofs.file_size.Tie as tie
 
@@ -9,7 +9,4 @@ file-size-spec =
     tie.close
     (tie.spec
     (λ c κs. search needs)
-    (λ c. search needs)
-    (λ c. search needs)
-    (λ c. search (size-is, needs))
-    (λ c. search (size-good, needs)))
+    (λ c. search size-is))

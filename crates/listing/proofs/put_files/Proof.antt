@@ -6,7 +6,7 @@ use borrow.Author.Needs.{needs}
 use Rattle.model.specs.Words.{word}
 use Rattle.model.specs.Journal.{view}
 use Rattle.model.specs.Listing.{nameLines}
-use Rattle.names.specs.Places.{standing}
+use Rattle.directory.specs.Places.{standing}
 use Rattle.lookup.proofs.Places.{place-ok}
 use Rattle.stores.proofs.Emitting.{Rest, rest-all}
 use Rattle.listing.specs.Lines.{GoodFiles}

@@ -6,7 +6,7 @@ use lib.Seq.{slice}
 use borrow.Author.Needs.{needs}
 use Rattle.model.specs.Words.{word}
 use Rattle.model.specs.State.{inodeOf}
-use Rattle.names.specs.Places.{standing}
+use Rattle.directory.specs.Places.{standing}
 use Rattle.lookup.proofs.Places.{here-in, here-field, found, find-next, find-end}
 use Rattle.lookup.proofs.find_name.Statement.{statement}
 use Rattle.lookup.proofs.find_name.Tie as tie

@@ -11,13 +11,13 @@ use Rattle.marks.proofs.mark_table.Statement.{statement}
 use Rattle.marks.proofs.mark_table.Tie as tie
 
 abbrev Inv-loop : tie.InvT-loop
-Inv-loop table pages inodes marks₀ i₀ left₀ marks i left =
-    (i + left ≡ 128) × (all (inPages pages inodes) (mapped table i left) ≡ true)
-    × (fresh marks (mapped table i left) ≡ fresh marks₀ (mapped table 0 128))
-    × (marked marks (mapped table i left) ≡ marked marks₀ (mapped table 0 128))
+Inv-loop table count pages inodes marks₀ i₀ left₀ marks i left =
+    (i + left ≡ count) × (all (inPages pages inodes) (mapped table i left) ≡ true)
+    × (fresh marks (mapped table i left) ≡ fresh marks₀ (mapped table 0 count))
+    × (marked marks (mapped table i left) ≡ marked marks₀ (mapped table 0 count))
 
 abbrev μ-loop : tie.MeasureT-loop
-μ-loop table pages inodes marks₀ i₀ left₀ marks i left = left
+μ-loop table count pages inodes marks₀ i₀ left₀ marks i left = left
 
 pub mark-table-spec : {M : Type 1} → statement M
 mark-table-spec =

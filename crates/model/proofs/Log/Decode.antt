@@ -1,19 +1,19 @@
 -- Entries as words, read back: an entry depends on its eight words alone, and the words of an entry mean that entry.
 use mathlib.Core.Path.{_≡_, refl, sym, _∙_, ap}
 use Prim.Native.Nat.{ℕ, zero, suc, _+_, _-_, _*_, _/_, _%_, _≤_, _<_}
-use mathlib.Core.Bool.{true, _&&_}
-use mathlib.Core.List.{List, [], _∷_, _++_}
+use mathlib.Core.Bool.{true}
+use mathlib.Core.List.{List}
 use native.Mathlib.Omega.{arith}
 use native.Mathlib.Nat.{add-zero, add-assoc}
-use lib.ListN.{length, getD, take, drop, replicate, length-append, length-replicate, length-take, getD-replicate, List·getD-eq-default}
+use lib.ListN.{length, getD, take, replicate, length-append, length-replicate, length-take, getD-replicate, List·getD-eq-default}
 use lib.Seq.{ext-getD, getD-take, take-append-seam, drop-append-seam}
 use borrow.Author.Tests.{lt-ltb, le-leb, leb-true}
-use Rattle.model.specs.Lists.{all, valuesFrom}
+use Rattle.model.specs.Lists.{valuesFrom}
 use Rattle.model.specs.Words.{Mem, word, byteAt}
 use Rattle.model.specs.Entry.{Entry, writeEntry, sizeEntry, addEntry, removeEntry, padded, nameField, entryAt, nameOk, isZero, fieldOk, fileEntryOk, nameEntryOk, writeWords, sizeWords, nameWords, addWords, removeWords}
 use Rattle.model.specs.Claim.{Bytes}
 use Rattle.model.proofs.Tests.{by-lt, ands}
-use Rattle.model.proofs.Lists.{length-values, values-at, values-same, getD-left, getD-right, all-replicate}
+use Rattle.model.proofs.Lists.{length-values, values-at, getD-left, getD-right, all-replicate}
 use Rattle.model.proofs.Words.{byte-word}
 
 -- the bytes of a memory depend on its words
@@ -26,7 +26,7 @@ byte-same m m′ v w i h =
     let d : (8 * v + i) % 8 ≡ i % 8 = omega arith in
     rw (a, b, c, d, h)
 
-field-same : (m m′ : Mem) (v w : ℕ) → ((j : ℕ) → j < 4 → m′ (w + j) ≡ m (v + j)) → nameField m′ w ≡ nameField m v
+pub field-same : (m m′ : Mem) (v w : ℕ) → ((j : ℕ) → j < 4 → m′ (w + j) ≡ m (v + j)) → nameField m′ w ≡ nameField m v
 unfolding nameField
 field-same m m′ v w h =
     ext-getD 0 (valuesFrom (byteAt m′) (8 * w) 32) (valuesFrom (byteAt m) (8 * v) 32)

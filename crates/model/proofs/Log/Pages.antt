@@ -56,7 +56,7 @@ entries-same m m′ (w ∷ ws) h = rw (entry-same m m′ w w (h w (has-head w ws
 abbrev pub SameLive : Mem → Mem → List ℕ → ℕ → ℕ → Type 0
 SameLive m m′ ps q i = (w : ℕ) → has (w / 64) ps ≡ true → (w / 64 ≡ q → w % 64 < 8 * i) → m′ w ≡ m w
 
-slots-range : (n v w : ℕ) → has w (slots n v) ≡ true → (v ≤ w) × (w + 8 ≤ v + 8 * n)
+pub slots-range : (n v w : ℕ) → has w (slots n v) ≡ true → (v ≤ w) × (w + 8 ≤ v + 8 * n)
 unfolding slots has
 slots-range zero v w h = no h
 slots-range (suc n) v w h =

@@ -7,9 +7,9 @@ use native.Mathlib.Omega.{arith}
 use Rattle.model.specs.Lists.{all}
 use Rattle.model.specs.Words.{word}
 use Rattle.model.specs.Journal.{view}
-use Rattle.names.specs.Places.{placesFrom, placeOk}
+use Rattle.directory.specs.Places.{placesFrom, placeOk}
 use Rattle.names.specs.Inodes.{validIn, inodesFrom}
-use Rattle.names.proofs.Table.{places-start, place-in, places-skip}
+use Rattle.directory.proofs.Table.{places-start, place-in, places-skip}
 use Rattle.names.proofs.Inodes.{valid-not, valid-next, valid-end}
 use Rattle.names.proofs.all_valid.Statement.{statement}
 use Rattle.names.proofs.all_valid.Tie as tie

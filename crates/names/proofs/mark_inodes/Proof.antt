@@ -6,9 +6,9 @@ use lib.ListN.{length}
 use native.Mathlib.Omega.{arith}
 use Rattle.model.specs.Lists.{all}
 use Rattle.model.specs.Words.{word}
-use Rattle.names.specs.Places.{placesFrom, placeOk}
+use Rattle.directory.specs.Places.{placesFrom, placeOk}
 use Rattle.names.specs.Inodes.{below, inodesFrom, marked}
-use Rattle.names.proofs.Table.{places-start, place-in, places-skip}
+use Rattle.directory.proofs.Table.{places-start, place-in, places-skip}
 use Rattle.names.proofs.Inodes.{below-here, below-next, mark-next, mark-end}
 use Rattle.names.proofs.mark_inodes.Statement.{statement}
 use Rattle.names.proofs.mark_inodes.Tie as tie

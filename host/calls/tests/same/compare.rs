@@ -63,6 +63,7 @@ pub struct Compared<'a> {
     bytes: &'a [u8],
     volume: Lent<u8>,
     counts: &'a mut Counts,
+    last: Option<Answer>,
 }
 
 impl<'a> Compared<'a> {
@@ -73,7 +74,13 @@ impl<'a> Compared<'a> {
             bytes,
             volume,
             counts,
+            last: None,
         }
+    }
+
+    /// What the last call answered, compiled and by the model.
+    pub fn answer(&self) -> Answer {
+        self.last.expect("a call was made")
     }
 
     /// Checks an answer, and that a call left the volume as it was.
@@ -88,6 +95,7 @@ impl<'a> Compared<'a> {
         assert_eq!(compiled, expected, "{call}({arguments})");
         assert!(self.volume.holds(self.bytes), "{call} changed the volume");
         self.counts.count(call, expected);
+        self.last = Some(expected);
     }
 
     /// Find.

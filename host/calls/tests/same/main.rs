@@ -8,6 +8,7 @@ mod compare;
 #[path = "../compiled/mod.rs"]
 mod compiled;
 mod damaged;
+mod directories;
 mod histories;
 mod large;
 mod lent;

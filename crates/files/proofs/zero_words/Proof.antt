@@ -1,0 +1,30 @@
+-- The loop's invariant: the first n words are zero if and only if all are.
+use Prim.Native.Nat.{_≤_}
+use mathlib.Core.Path.{_≡_}
+use borrow.Author.Needs.{needs}
+use Rattle.model.specs.Words.{word}
+use Rattle.files.specs.State.{zerosAt}
+use Rattle.files.proofs.Ends.{zero-next, zero-bad, zero-end}
+use Rattle.files.proofs.zero_words.Statement.{statement}
+use Rattle.files.proofs.zero_words.Tie as tie
+
+abbrev Inv-loop : tie.InvT-loop
+Inv-loop v w count n₀ n = (n ≤ count) × (zerosAt (word v) w n ≡ zerosAt (word v) w count)
+
+abbrev μ-loop : tie.MeasureT-loop
+μ-loop v w count n₀ n = n
+
+pub zero-words-spec : {M : Type 1} → statement M
+zero-words-spec =
+    tie.close
+    (tie.spec
+    Inv-loop
+    μ-loop
+    (λ c. search needs)
+    (λ c. search needs)
+    (λ c. search needs)
+    (λ c κs. search needs)
+    (λ c. search (zero-bad, needs))
+    (λ c. search needs)
+    (λ c. search (zero-next, needs))
+    (λ c. search (zero-end, needs)))
