@@ -1,9 +1,5 @@
 -- The cases of the two numbers: which case the answer is decides them.
-use Prim.Native.Nat.{ℕ, zero, suc, _^_, _-_, _≤_, _<_}
-use mathlib.Core.Path.{_≡_, refl, sym, _∙_}
-use mathlib.Core.List.{List, [], _∷_}
-use native.Mathlib.Omega.{arith}
-use borrow.Author.Tests.{lt-ltb, le-ltb}
+use Rattle.model.proofs.Prelude.{ℕ, zero, suc, _^_, _-_, _≤_, _<_, _≡_, refl, sym, _∙_, List, [], _∷_, arith, lt-ltb, le-ltb}
 use denote.Enum.Declared.{tagOf}
 use types.Run.{OneOf, miss}
 use lib.IntN.{pos, negℤ, _-ℤ_, +ℤ-idl}

@@ -1,2 +1,3 @@
--- The cases of the two numbers, and what an answer that is no number is.
+-- Codes has the cases of the two numbers, and what an answer that is no number is; Coming what a call that fills a list comes to.
 pub mod Codes
+pub mod Coming

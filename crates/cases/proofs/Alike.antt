@@ -1,16 +1,11 @@
 -- Two holdings that are alike run every table alike: what a row answers and leaves depends on a volume's length and words alone.
-use Prim.Native.Nat.{ℕ}
-use mathlib.Core.Path.{_≡_, refl, sym, _∙_, ap}
-use mathlib.Core.Bool.{Bool, true, false, cond, _&&_}
-use mathlib.Core.List.{List, [], _∷_}
-use lib.ListN.{length}
-use lib.Dec.{eqb}
-use Rattle.model.specs.Lists.{has, all}
+use Rattle.model.proofs.Prelude.{ℕ, _≡_, refl, List, [], _∷_, length, eqb}
+use Rattle.model.specs.Lists.{has}
 use Rattle.model.specs.Power.{Power, held, cut}
 use Rattle.model.specs.Answer.{Answer, refused, done, mapAnswer}
 use Rattle.model.proofs.Tests.{by-bool}
 use Rattle.cases.specs.Table.{Step, formats, calls, cuts, Row}
-use Rattle.cases.specs.Run.{Holding, wordsOf, orVolume, answerIs, factHolds, volumeOf, filling, answer, leftBy, allHold}
+use Rattle.cases.specs.Run.{Holding, wordsOf, orVolume, volumeOf, filling, answer, leftBy, allHold}
 
 module _ {X Y : Type 0} (H : Holding X) (K : Holding Y) (Same : X → Y → Type 0) where
   -- the same refusal, or volumes that are the same

@@ -1,9 +1,5 @@
 -- Volumes held as lists of words: what the cases are computed on.
-use Prim.Native.Nat.{ℕ, _+_, _-_, _*_, _%_, _^_}
-use mathlib.Core.Bool.{cond, _&&_, not}
-use mathlib.Core.List.{List, [], _∷_, _++_}
-use lib.ListN.{length, getD, set, drop, replicate}
-use lib.Dec.{eqb}
+use Rattle.model.proofs.Prelude.{ℕ, _+_, _-_, _*_, _%_, _^_, cond, _&&_, not, List, [], _∷_, _++_, length, getD, set, drop, replicate, eqb}
 use Rattle.model.specs.Words.{Mem}
 use Rattle.model.specs.Layout.{sizesOk, tablePages}
 use Rattle.model.specs.Stores.{fence}

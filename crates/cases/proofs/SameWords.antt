@@ -1,13 +1,5 @@
 -- Bytes and the list of their words are alike: each step of a run does the same to both.
-use Prim.Native.Nat.{ℕ, zero, suc, _+_, _-_, _*_, _/_, _%_, _^_, _≤_, _<_}
-use mathlib.Core.Path.{_≡_, refl, ap, sym, _∙_, fun-ext}
-use mathlib.Core.Bool.{Bool, true, false, cond, _&&_, not}
-use mathlib.Core.List.{List, [], _∷_, _++_}
-use native.Mathlib.Omega.{arith}
-use native.Mathlib.Nat.{div-one, zero-add}
-use lib.ListN.{length, getD, set, drop, replicate, length-set, length-append, length-drop, length-replicate, getD-replicate, List·getD-append, List·getD-eq-default}
-use lib.Seq.{getD-set-same, getD-set-other, getD-append-add, getD-drop, set-out}
-use lib.Dec.{eqb}
+use Rattle.model.proofs.Prelude.{ℕ, _+_, _-_, _*_, _%_, _^_, _≡_, refl, sym, _∙_, fun-ext, Bool, _&&_, List, [], _∷_, _++_, arith, div-one, zero-add, length, getD, set, drop, replicate, length-set, length-append, length-drop, length-replicate, getD-replicate, List·getD-append, List·getD-eq-default, getD-set-same, getD-set-other, getD-append-add, getD-drop, set-out, eqb}
 use Rattle.model.specs.Words.{leFrom, word, putWord}
 use Rattle.model.specs.Layout.{sizesOk, tablePages}
 use Rattle.model.specs.Stores.{fence, carried}
@@ -17,7 +9,7 @@ use Rattle.model.proofs.Tests.{by-bool, by-eq, by-lt}
 use Rattle.model.proofs.Words.{leFrom-same, word-same, word-other, word-out, word-drop, word-append-left, word-append-right, length-putWord, putWord-out}
 use Rattle.model.proofs.Power.{length-mixed, mixed-at, word-mixed}
 use Rattle.cases.specs.Run.{asBytes}
-use Rattle.cases.proofs.Held.{memOf, stored, carriedWords, leavesWords, formatWords, asWords}
+use Rattle.cases.proofs.Held.{stored, carriedWords, leavesWords, formatWords, asWords}
 use Rattle.cases.proofs.Alike.{Alike, SameAnswer}
 
 -- v are the bytes of the words l

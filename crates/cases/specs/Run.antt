@@ -1,9 +1,9 @@
 -- Running a table: the volume that each row leaves, and whether the row's answer and facts are as expected.
 -- The run is the same whatever a volume is held as: bytes here, words where it is computed (proofs/Held.antt).
-use Prim.Native.Nat.{ℕ, _+_, _*_}
+use Prim.Native.Nat.{ℕ, _*_}
 use mathlib.Core.Path.{_≡_}
 use mathlib.Core.Bool.{Bool, true, false, cond, _&&_}
-use mathlib.Core.List.{List, [], _∷_, _++_}
+use mathlib.Core.List.{List, [], _∷_}
 use lib.ListN.{length, replicate}
 use lib.Dec.{eqb}
 use Rattle.model.specs.Lists.{has, all, sameList, valuesFrom}
@@ -18,7 +18,8 @@ use Rattle.model.specs.Answer.{Answer, refused, done, mapAnswer}
 use Rattle.model.specs.Public.{format, fills, size, read, countFree}
 use Rattle.model.specs.Listing.{listingOf}
 use Rattle.cases.specs.Table as Table
-use Rattle.cases.specs.Table.{Step, formats, calls, cuts, Expected, isDone, refuses, Fact, wordIs, freeIs, namesAre, sizeIs, dataIs, logIs, bytesAre, prints, Row, table}
+use Rattle.cases.specs.Table.{Step, formats, calls, cuts, Expected, isDone, refuses, Fact, wordIs, freeIs, namesAre, sizeIs, dataIs}
+use Rattle.cases.specs.Table.{logIs, bytesAre, prints, Row, table}
 
 -- How volumes are held: as a Volume.
 pub record Holding (Volume : Type 0) : Type 0 where

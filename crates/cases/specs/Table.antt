@@ -90,7 +90,8 @@ table =
       step = calls B (write 1 510 (bytes 4));
       answer = fills 280;
       facts =
-          dataIs 1 (3 ∷ 4 ∷ []) ∷ logIs 1 (5 ∷ []) ∷ wordIs 74 2624 ∷ sizeIs 1 514 ∷ bytesAre 1 508 (0 ∷ 0 ∷ 1 ∷ 2 ∷ 3 ∷ 4 ∷ []) ∷ freeIs 10 ∷ prints listingC ∷ [];
+          dataIs 1 (3 ∷ 4 ∷ []) ∷ logIs 1 (5 ∷ []) ∷ wordIs 74 2624 ∷ sizeIs 1 514 ∷ bytesAre 1 508 (0 ∷ 0 ∷ 1 ∷ 2 ∷ 3 ∷ 4 ∷ [])
+          ∷ freeIs 10 ∷ prints listingC ∷ [];
     }
     -- D
     ∷ record {

@@ -1,12 +1,5 @@
 -- Each test of the code is one of the checks, and those before it did not hold.
-use Prim.Native.Nat.{ℕ, _≤_, _<_}
-use mathlib.Core.Path.{_≡_, refl}
-use mathlib.Core.Bool.{Bool, true, false, not}
-use mathlib.Core.List.{List, [], _∷_, _++_}
-use mathlib.Core.Option.{some}
-use borrow.Author.Tests.{le-leb, lt-leb, eq-eqb, ne-eqb, not-true, not-false}
-use lib.Dec.{leb, eqb}
-use lib.ListN.{length, take}
+use Rattle.model.proofs.Prelude.{ℕ, _≤_, _<_, _≡_, refl, Bool, true, false, not, List, [], _∷_, _++_, some, le-leb, lt-leb, eq-eqb, ne-eqb, not-true, not-false, leb, eqb, length, take}
 use Rattle.model.specs.Lists.{isSome}
 use Rattle.model.specs.Words.{Mem}
 use Rattle.model.specs.Layout.{mostNames}

@@ -11,9 +11,7 @@ ghost use Rattle.answer.specs.Meaning.{meaning, numbered};
 ghost use Rattle.checks.specs.Names.{createFirst, linkFirst, unlinkFirst, renameFirst, freeInode};
 ghost use Rattle.model.specs.State.{inodeOf};
 use answer::Answer;
-
-// The names that a directory has at most.
-const MOST_NAMES: usize = 224;
+use layout::MOST_NAMES;
 
 // Answers Number with the inode that a new file of this name gets, the lowest that is not valid; BadName, Taken, NoInode or
 // DirectoryFull.
@@ -27,7 +25,8 @@ pub fn create_checks(
 ) -> Answer
     requires { ⌜ Filled (word (now v)) (length (now v)) count (now places) × Readable (word (now v)) (length (now v)) inodes ⌝ }
     ensures { λ r. ⌜ meaning r ≡ numbered (firstRefusal
-        (createFirst (view (word (now (v .entry)))) inodes (standing (word (now (v .entry))) (take count (now (places .entry)))) (now (name .entry)))
+        (createFirst (view (word (now (v .entry)))) inodes (standing (word (now (v .entry))) (take count (now (places .entry))))
+        (now (name .entry)))
         (done (freeInode (view (word (now (v .entry)))) inodes))) ⌝ }
 {
     if !lookup::is_name(name) {

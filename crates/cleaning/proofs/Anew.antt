@@ -1,228 +1,192 @@
--- A log that is written anew: its entries are those of the names or of the file, its pages those that were taken, and head and tail are committed together.
-use Prim.Native.Nat.{ℕ, _+_, _*_, _/_, _≤_, _<_}
-use mathlib.Core.Path.{_≡_, refl, sym, _∙_, ap}
-use mathlib.Core.Bool.{true, false, not}
-use mathlib.Core.List.{List, [], _∷_}
-use mathlib.Core.Option.{some}
-use native.Mathlib.Omega.{arith}
-use borrow.Author.Tests.{leb-true, ltb-false, ne-eqb, not-true, not-false}
-use lib.ListN.{length, getD, take, replicate, length-replicate, getD-replicate, List·getD-eq-default}
+-- Clean behind the gate: an inode that is not there is refused, an empty log is left, and any other log is an append that writes it anew.
+use Rattle.model.proofs.Prelude.{ℕ, zero, suc, _+_, _*_, _/_, _≤_, _<_, _≡_, refl, sym, _∙_, Bool, true, false, not, _||_, List, [], _∷_, arith, le-leb, lt-leb, lt-ltb, le-ltb, leb-false, eq-eqb, ne-eqb, not-false, leb, length, take, length-take, getD-take, length-take-le}
 use Rattle.model.specs.Words.{Mem, word}
-use Rattle.model.specs.Layout.{headWord, tailWord}
-use Rattle.model.specs.Journal.{enqueueWord, journalOk, view}
+use Rattle.model.specs.Layout.{root, tailWord}
+use Rattle.model.specs.Journal.{view}
 use Rattle.model.specs.State.{fileOf}
-use Rattle.model.specs.Accept.{logOk, namesOk, viewOk, accepted}
-use Rattle.model.specs.Stores.{Stores, storeList}
-use Rattle.model.specs.Answer.{refused, done, mapAnswer, filledFrom, noSpace}
-use Rattle.model.specs.Calls.{tailAfter, pagesFor, commitTogether, cleanFile, cleanNames, cleanEntries, cleanGroups}
-use Rattle.model.proofs.Tests.{by-lt, and-right, ands}
-use Rattle.model.proofs.Lengths.{clean-short}
-use Rattle.model.proofs.Frame.View.{view-fine}
-use Rattle.model.proofs.Crash.Journal.{closed-view}
-use Rattle.model.proofs.Crash.Landing.{Sizes, volume-parts, sizes-parts}
+use Rattle.model.specs.Accept.{isValid, logOk}
+use Rattle.model.specs.FileMap.{clean}
+use Rattle.model.specs.Stores.{noWords, storeList}
+use Rattle.model.specs.Answer.{notThere}
+use Rattle.model.specs.Calls.{cleanFile, cleanNames, cleanEntries, cleanAction, entriesOnly, checks, groups, action, actionChecks, actionGroups}
+use Rattle.model.proofs.Tests.{by-lt, or-false}
+use Rattle.model.proofs.Lists.{values-same}
+use Rattle.model.proofs.Frame.View.{log-ok}
 use Rattle.log.specs.Ready.{Ready}
 use Rattle.directory.specs.Places.{standing}
-use Rattle.directory.proofs.Table.{standing-length}
+use Rattle.names.specs.Inodes.{Readable, below, validIn}
 use Rattle.files.specs.State.{fileFrom}
-use Rattle.inodes.specs.Judged.{Served}
-use Rattle.survey.proofs.Facts.{volume-long}
-use Rattle.stores.specs.Emitted.{Emitted}
-use Rattle.group.specs.declared.Log.{Log}
-use Rattle.group.specs.declared.Plan.{Plan}
-use Rattle.group.specs.Plan.{part, logStores, restStores, LogFits, Fits}
-use Rattle.group.proofs.Parts.{length-entries}
-use Rattle.plan.specs.Planned.{Small}
-use Rattle.entries.specs.Table.{Holds}
-use Rattle.room.specs.declared.Room.{Room}
-use Rattle.room.specs.Taken.{CleanTaken}
-use Rattle.room.proofs.Enough.{clean-small, clean-lacks, clean-there, clean-fresh, clean-pages}
-use Rattle.answer.specs.Meaning.{numbered}
-use Rattle.gate.specs.Gated.{rootNames}
-use Rattle.state.proofs.Sizes.{file-log}
-use Rattle.cleaning.specs.Anew.{entriesFor, pagesTaken, wordsFor, rewritten, Cleanable, Named, Rewritable, Laid}
-use Rattle.cleaning.proofs.Filling.{volume-ready, only-log, emitted-words}
+use Rattle.inodes.specs.Judged.{Closed}
+use Rattle.entries.specs.Table.{element, entriesOf, Holds}
+use Rattle.answer.specs.Comes.{Comes, cameTo}
+use Rattle.answer.specs.declared.Answer.{Answer}
+use Rattle.answer.specs.declared.Answer.the-variants.{Number, NotThere}
+use Rattle.answer.proofs.Codes.{NoNumber}
+use Rattle.answer.proofs.Coming.{comes-refused, comes-none, comes-as}
+use Rattle.append.specs.declared.Append.{Append}
+use Rattle.append.specs.Appended.{plain, actionOf, outcome, Ready as AppendReady}
+use Rattle.append.proofs.Volumes.{closed-bytes, closed-sizes, closed-fine}
+use Rattle.append.proofs.Outcomes.{asked-only, zeroed-none, also-nothing}
+use Rattle.gate.specs.Gated.{fillChecks, Gated}
+use Rattle.gate.proofs.Gates.{gate-long, gate-ready, gate-readable}
+use Rattle.gate.proofs.Lists.{fill-refused, fill-behind, fill-long, fill-closed, fill-view}
+use Rattle.cleaning.specs.Cleanable.{Cleanable}
 
--- The entries of inode k.
-module _ (v : List ℕ) (k : ℕ) (c : Cleanable v k) where
-  pub clean-ready : (P N : ℕ) → P ≡ word v 0 → N ≡ word v 1 → Ready (word v) (length v) P N
-  clean-ready = volume-ready v (c .volume) (c .good)
+-- The first words of a table have its first entries.
+first-entries : (ws : List ℕ) (m j k : ℕ) → k + 8 * j ≤ m → entriesOf (take m ws) k j ≡ entriesOf ws k j
+unfolding entriesOf
+first-entries ws m zero k h = refl
+first-entries ws m (suc j) k h =
+    rw (values-same (element (take m ws)) (element ws) k 8 (λ i a b. getD-take m ws i 0 (omega arith)), first-entries ws m j (k + 8) (omega arith))
 
-  pub clean-long : 512 ≤ length v
-  clean-long = volume-long v (c .volume)
+-- .. and are as many as these take
+pub slice-long : (ws₀ ws : List ℕ) (r : ℕ) (es : List (List ℕ)) → Holds ws₀ ws r es → length ws₀ ≡ 1792 → r ≤ 224 → 8 * r ≡ length (take (8 * r) ws)
+slice-long ws₀ ws r es h e f = sym (length-take-le (8 * r) ws (omega (arith, h .long)))
 
-  pub clean-below : (N : ℕ) → N ≡ word v 1 → k < N
-  clean-below N q = omega (arith, q, c .below)
+-- the append that writes the log of inode k anew, and what it comes to
+abbrev anewOf : ℕ → Append
+anewOf k = record { log = k; anew = true; file = 0; size = 0; other = 0; valid = 0 }
 
-  sizes : Sizes (word v 0) (word v 1)
-  sizes = sizes-parts (word v 0) (word v 1) (volume-parts (length v) (word v) (c .volume) .sizes)
+anew-outcome : (v : List ℕ) (k : ℕ) (ws : List ℕ) (es : List (List ℕ)) → entriesOf ws 0 (length ws / 8) ≡ es
+    → outcome v (actionOf (anewOf k) ws []) ≡ outcome v (plain (entriesOnly true k es ∷ []) noWords [])
+unfolding actionOf
+anew-outcome v k ws es p = rw (asked-only (anewOf k) ws refl refl, p, zeroed-none (anewOf k) refl, also-nothing (anewOf k) refl)
 
-  good-view : viewOk (view (word v)) (word v 0) (word v 1) ≡ true
-  unfolding accepted
-  good-view = and-right (journalOk (word v) (word v 1)) _ (c .good)
+-- `clean_entries`
+module _ (v : List ℕ) (n : ℕ) (places : List ℕ) (k : ℕ) (c : Cleanable v n places k) where
+  pub entries-long : 16 ≤ length v
+  entries-long = omega (arith, c .volume .bytes, c .volume .room)
 
-  -- the directory: its names stand at the first count places
-  module _ (count : ℕ) (places : List ℕ) (n : Named v count places) where
-    pub names-few : count ≤ 224
-    unfolding namesOk
-    names-few =
-        let f = view-fine (view (word v)) (word v 0) (word v 1) good-view .names in
-        let l : length (rootNames v) ≤ 224 = leb-true _ 224 (search ands) in
-        let s : length (rootNames v) ≡ count = rw (← (n .names)) (standing-length (word v) (length v) places count (n .filled)) in omega arith
+  pub names-few : (r : ℕ) → r ≡ n → r ≤ 224
+  names-few r e = omega (arith, c .filled .few)
 
-    pub names-bound : (r : ℕ) → r ≡ count → r ≤ 224
-    names-bound r e = omega (arith, e, names-few)
+  -- the directory
+  pub names-laid : (w x : List ℕ) (r : ℕ) → k ≡ 0 → Holds w x r (cleanNames (standing (word v) (take n places)))
+      → Holds w x r (cleanEntries (view (word v)) (word v 0) (word v 1) k)
+  unfolding cleanEntries
+  names-laid w x r z h = rw z (rw (c .names) at h)
 
-    pub names-laid : (w : List ℕ) (r : ℕ) → k ≡ 0 → Holds w r (cleanNames (standing (word v) (take count places))) → Holds w r (entriesFor v k)
-    unfolding cleanEntries
-    names-laid w r z h = rw z (rw (n .names) at h)
-
-  -- a file: n is the size that `judged_file` answered, t the table that it left
+  -- a file: P and N are the sizes that the code read
   module _ (P N : ℕ) (p : P ≡ word v 0) (q : N ≡ word v 1) where
-    pub good-log : logOk (view (word v)) P N k ≡ true
-    good-log = rw (p, q) (file-log (view (word v)) (word v 0) (word v 1) k good-view (c .below) (c .valid))
+    pub file-ready : Ready (word v) (length v) P N
+    file-ready = rw (p, q) (c .volume)
 
-    pub file-laid : (n : ℕ) (t : List ℕ) → fileFrom n t ≡ fileOf (view (word v)) P N k → (k ≡ 0 → ⊥) → (w : List ℕ) (r : ℕ)
-        → Holds w r (cleanFile (fileFrom n t)) → Holds w r (entriesFor v k)
+    pub file-below : k < N
+    file-below = rw q (c .below)
+
+    pub file-log : logOk (view (word v)) P N k ≡ true
+    file-log = rw (p, q) (c .log)
+
+    -- s and t are what `judged_file` answered and left
+    pub file-laid : (s : ℕ) (t : List ℕ) → fileFrom s t ≡ fileOf (view (word v)) P N k → (k ≡ 0 → ⊥) → (w x : List ℕ) (r : ℕ)
+        → Holds w x r (cleanFile (fileFrom s t)) → Holds w x r (cleanEntries (view (word v)) (word v 0) (word v 1) k)
     unfolding cleanEntries
-    file-laid n t f z w r h =
-        let i : fileFrom n t ≡ fileOf (view (word v)) (word v 0) (word v 1) k = rw (← p, ← q) f in
-        rw (ne-eqb k 0 z) (rw i at h)
+    file-laid s t f z w x r h = rw (ne-eqb k 0 z) (rw (f, p, q) at h)
 
--- `list_clean`: l is the list.
-module _ (v l : List ℕ) (k : ℕ) (w : Rewritable v l k) where
-  pub anew-cleanable : Cleanable v k
-  anew-cleanable = w .cleanable
+-- what the gate refuses
+pub gate-told : (v l : List ℕ) (r : Answer) (places marks : List ℕ) → Gated v root (fillChecks (length v) (word v) (length l)) r places marks → NoNumber r
+    → (k : ℕ) → Comes (cameTo v l (clean k)) l r l
+gate-told v l r places marks g o k = fill-refused v l (clean k) refl r places marks g o
 
-  pub anew-long : 512 ≤ length v
-  anew-long = clean-long v k anew-cleanable
+pub gate-count : (v l : List ℕ) (r : Answer) (places marks : List ℕ) → Gated v root (fillChecks (length v) (word v) (length l)) r places marks → (n : ℕ) → r ≡ Number n
+    → Gated v root (fillChecks (length v) (word v) (length l)) (Number n) places marks
+gate-count v l r places marks g n e = rw e at g
 
-  anew-sizes : Sizes (word v 0) (word v 1)
-  anew-sizes = sizes v k anew-cleanable
+-- `clean_log`
+module _ (v l : List ℕ) (n : ℕ) (places marks : List ℕ) (g : Gated v root (fillChecks (length v) (word v) (length l)) (Number n) places marks) where
+  abbrev m : Mem
+  m = word v
 
-  pub anew-inode : k < 256
-  anew-inode = omega (arith, anew-sizes .most-inodes, anew-cleanable .below)
+  pub log-long : 16 ≤ length v
+  log-long = let h = gate-long v _ _ places marks g n refl in omega arith
 
-  pub anew-enqueue : word v enqueueWord < 16
-  anew-enqueue = clean-ready v k anew-cleanable (word v 0) (word v 1) refl refl .enqueue
+  pub log-readable : (N : ℕ) → N ≡ m 1 → Readable m (length v) N
+  log-readable N q = gate-readable v _ _ places marks g n refl N q
 
-  pub anew-short : length (wordsFor v k) ≤ length l
-  anew-short = omega (arith, clean-short (64 * word v 0) (view (word v)) (word v 0) (word v 1) k (good-view v k anew-cleanable), w .long)
+  closed-here : Closed v marks
+  closed-here = fill-closed v l (Number n) places marks g n refl
 
-  -- T is the count of pages
-  module _ (T : ℕ) (p : T ≡ word v 0) where
-    pub anew-pages : T ≤ 4096
-    anew-pages = rw p (anew-sizes .most-pages)
+  same-view : view m ≡ m
+  same-view = fill-view v l (Number n) places marks g n refl
 
-    pub anew-bytes : length v ≡ 512 * T
-    anew-bytes = rw p (volume-parts (length v) (word v) (anew-cleanable .volume) .bytes)
+  behind : (k : ℕ) → cameTo v l (clean k) ≡ outcome v (cleanAction m (m 0) (m 1) k)
+  unfolding checks groups action outcome
+  behind k = fill-behind v l (clean k) refl (Number n) places marks g n refl ∙ rw same-view
 
-    pub anew-inside : (b : ℕ) → b ≡ tailWord k → b < 64 * T
-    anew-inside b e = omega (arith, p, e, anew-sizes .whole, anew-sizes .room, anew-cleanable .below)
+  -- k is the inode, N the count of inodes as the code read it, and d what `is_valid` answered
+  module _ (k N : ℕ) (q : N ≡ m 1) (d : Bool) (a : d ≡ validIn (view m) N k) where
+    absent-is : not d ≡ leb (m 1) k || not (isValid m k)
+    unfolding validIn below
+    absent-is =
+        let b = rw (same-view, q) at a in
+        by-lt k (m 1) (λ h. rw (lt-leb (m 1) k h, b, lt-ltb k (m 1) h)) (λ h. rw (le-leb (m 1) k h, b, le-ltb k (m 1) h))
 
-  -- n pages ps and the first entries of the table ws
-  module _ (n entries : ℕ) (ps ws : List ℕ) (d : Laid v k n entries ps ws) where
-    abbrev log : Log
-    log = record { from = 1; pages = n; first = 0; entries = entries }
+    pub clean-absent : not d ≡ true → Comes (cameTo v l (clean k)) l NotThere l
+    unfolding outcome actionChecks cleanAction
+    clean-absent y = comes-refused (cameTo v l (clean k)) l NotThere notThere refl (behind k ∙ rw (← absent-is, y))
 
-    abbrev plan : Plan
-    plan = record { before = 0; start = 0; count = 0; log = log; after = 0 }
+    module _ (y : not d ≡ false) where
+      there : (leb (m 1) k ≡ false) × (not (isValid m k) ≡ false)
+      there = or-false (leb (m 1) k) (not (isValid m k)) (sym absent-is ∙ y)
 
-    pub anew-log : LogFits log
-    anew-log = record { pages-fit = omega (arith, d .pages-few); first-slot = omega arith; entries-fit = d .entries-few }
+      is-below : k < m 1
+      is-below = leb-false (m 1) k (there .0)
 
-    pub anew-fits : Fits plan
-    anew-fits = record { before-fit = omega arith; after-fit = omega arith; data-fit = omega arith; data-in = omega arith; log-fits = anew-log }
+      is-valid : isValid m k ≡ true
+      is-valid = not-false (isValid m k) (there .1)
 
-    pub anew-small : Small ps
-    anew-small = d .small
+      pub inode-low : k < 1152921504606846976
+      inode-low = omega (arith, is-below, closed-sizes v marks closed-here .1)
 
-    pub anew-enough : (0 + entries + 6) / 7 ≤ n
-    anew-enough = omega (arith, d .enough)
+      pub tail-inside : (w : ℕ) → w ≡ tailWord k → 8 * w + 8 ≤ length v
+      tail-inside w i = omega (arith, i, is-below, closed-bytes v marks closed-here, closed-sizes v marks closed-here .2)
 
-    -- a and b are the words of head and tail, x and y what they become
-    module _ (T a x b y : ℕ) (p : T ≡ word v 0) (ea : a ≡ headWord k) (ex : x ≡ getD (part ps 1 n) 0 0) (eb : b ≡ tailWord k)
-        (ey : y ≡ tailAfter (part ps 1 n) 0 entries) (ss ds : List ℕ) where
-      -- the groups in any memory m
-      together : Mem → List Stores
-      together m = commitTogether m (restStores plan ss ps ws ds) ((a, x) ∷ (b, y) ∷ [])
+      pub can-clean : Cleanable v n places k
+      can-clean =
+          record {
+            volume = gate-ready v _ _ places marks g n refl (m 0) (m 1) refl refl;
+            filled = g .tables n refl .filled;
+            names = g .tables n refl .names;
+            below = is-below;
+            log = rw same-view (log-ok m (m 0) (m 1) (closed-fine v marks closed-here) k is-below is-valid);
+          }
 
-      same-groups : together (view (word v)) ≡ cleanGroups (view (word v)) (word v 0) (word v 1) k
-      unfolding together cleanGroups logStores
-      same-groups =
-          rw (
-            w .tail,
-            only-log plan refl refl refl ss ps ws ds,
-            ea,
-            ex,
-            eb,
-            ey,
-            ← (d .pages-are),
-            ← (d .entries-are),
-            length-entries ws 0 entries,
-          )
+      -- the append o of the first words of the table ws
+      pub anew-ready : (o : Append) → o ≡ anewOf k → (ws : List ℕ) (r : ℕ) → r ≤ 224 → AppendReady v marks o (take (8 * r) ws) [] l
+      anew-ready o f ws r few =
+          let s = length-take (8 * r) ws in
+          let t = fill-long v l (Number n) places marks g n refl in
+          rw f (record {
+            volume = closed-here;
+            log = is-below;
+            valid = is-valid;
+            other = omega (arith, is-below);
+            some-entry = λ e. absurd (let j : _≡_ {A = ℕ} 0 1 = cc in omega arith);
+            few = omega arith;
+            whole = refl;
+            room = omega arith;
+          })
 
-      anew-list : storeList (64 * T) (commitTogether (word v) (restStores plan ss ps ws ds) ((a, x) ∷ (b, y) ∷ [])) ≡ wordsFor v k
-      unfolding together
-      anew-list =
-          rw p (ap (λ (m : Mem). storeList (64 * word v 0) (together m)) (sym (closed-view (word v) (anew-cleanable .closed)))
-          ∙ ap (storeList (64 * word v 0)) same-groups)
+      -- x is the tail, read from word w
+      module _ (w x : ℕ) (i : w ≡ tailWord k) (b : x ≡ m w) where
+        tail-is : x ≡ m (tailWord k)
+        tail-is = rw (← i) b
 
-      pub anew-room : length (storeList (64 * T) (commitTogether (word v) (restStores plan ss ps ws ds) ((a, x) ∷ (b, y) ∷ []))) ≤ length l
-      anew-room = rw anew-list anew-short
+        pub clean-empty : x ≡ 0 → Comes (cameTo v l (clean k)) l (Number 0) l
+        unfolding outcome actionChecks actionGroups cleanAction storeList
+        clean-empty z = comes-none (cameTo v l (clean k)) l (behind k ∙ rw (← absent-is, y, eq-eqb (m (tailWord k)) 0 (sym tail-is ∙ z)))
 
-      pub anew-listed : (r : ℕ) (m : List ℕ)
-          → Emitted l 0 (storeList (64 * T) (commitTogether (word v) (restStores plan ss ps ws ds) ((a, x) ∷ (b, y) ∷ []))) r m
-          → Emitted l 0 (wordsFor v k) r m
-      anew-listed r m h = rw anew-list at h
+        -- the first r entries of the table ws are those of the clean log
+        module _ (z : x ≡ 0 → ⊥) (ws₀ ws : List ℕ) (r : ℕ) (h : Holds ws₀ ws r (cleanEntries (view m) (m 0) (m 1) k)) (few : r ≤ 224) (long : length ws₀ ≡ 1792)
+            (o : Append) (f : o ≡ anewOf k) where
+          table-entries : entriesOf (take (8 * r) ws) 0 (length (take (8 * r) ws) / 8) ≡ cleanEntries m (m 0) (m 1) k
+          table-entries =
+              let e : length (take (8 * r) ws) / 8 ≡ r = omega (arith, slice-long ws₀ ws r _ h long few) in
+              rw e (first-entries ws (8 * r) r 0 (omega arith) ∙ (rw same-view at (h .entries)))
 
--- `rewrite`: what it comes to gives the answer and the list.
-module _ (v l : List ℕ) (k : ℕ) where
-  pub anew-refused : (i : ℕ) → refused i ≡ rewritten v k
-      → (refused i ≡ numbered (mapAnswer length (rewritten v k))) × (l ≡ filledFrom l (rewritten v k))
-  anew-refused i e = (rw (← e), rw (← e))
-
-  pub anew-filled : (m : List ℕ) (i : ℕ) → Emitted l 0 (wordsFor v k) i m → length (wordsFor v k) ≤ length l → rewritten v k ≡ done (wordsFor v k)
-      → (done (some i) ≡ numbered (mapAnswer length (rewritten v k))) × (m ≡ filledFrom l (rewritten v k))
-  anew-filled m i a b e = rw e (emitted-words l m (wordsFor v k) i b a)
-
--- a table of zeros
-zeros-small : (t : List ℕ) (n : ℕ) → t ≡ replicate n 0 → (j : ℕ) → getD t j 0 < 4096
-zeros-small t n e j =
-    let z : _≡_ {A = ℕ} (getD (replicate n 0) j 0) 0 =
-    by-lt j n (λ h. getD-replicate n j 0 0 h) (λ h. List·getD-eq-default (replicate n 0) 0 {n = j} (rw length-replicate h)) in
-    rw (e, z) (omega arith)
-
--- n entries stand in the table ws, and r and t′ are what `take_clean` answered and left of the table t
-module _ (v : List ℕ) (k : ℕ) (marks : List ℕ) (P N n : ℕ) (r : Room) (t t′ : List ℕ) (y : CleanTaken marks P N n r t t′) (ws : List ℕ)
-    (h : Holds ws n (entriesFor v k)) (s : Served (view (word v)) (word v 0) (word v 1) true marks) (p : P ≡ word v 0) (q : N ≡ word v 1) where
-  counted : n ≡ length (entriesFor v k)
-  counted = rw (← (h .entries)) (sym (length-entries ws 0 n))
-
-  took : CleanTaken marks (word v 0) (word v 1) n r t t′
-  took = rw (p, q) at y
-
-  pub anew-lacks : not (r .enough) ≡ true → refused noSpace ≡ rewritten v k
-  unfolding rewritten
-  anew-lacks e = rw (clean-lacks marks (word v 0) (word v 1) n r t t′ took (view (word v)) k s counted (not-true (r .enough) e))
-
-  module _ (e : not (r .enough) ≡ false) where
-    enough : r .enough ≡ true
-    enough = not-false (r .enough) e
-
-    pub anew-there : rewritten v k ≡ done (wordsFor v k)
-    unfolding rewritten
-    anew-there = rw (clean-there marks (word v 0) (word v 1) n r t t′ took (view (word v)) k s counted enough)
-
-    pub anew-laid : t ≡ replicate 40 0 → n ≤ 224 → Laid v k (r .fresh) n t′ ws
-    anew-laid z few =
-        let f = clean-fresh marks (word v 0) (word v 1) n r t t′ took (view (word v)) k s counted enough in
-        let g : pagesFor (length (entriesFor v k)) ≤ length (pagesTaken v k) = ltb-false _ _ (clean-there marks (word v 0) (word v 1) n r t t′ took (view (word v)) k s counted enough) in
-        let c : n ≡ length (entriesFor v k) = counted in
-        record {
-          pages-are = clean-pages marks (word v 0) (word v 1) n r t t′ took (view (word v)) k s counted enough (rw (z, length-replicate));
-          entries-are = h .entries;
-          small = record { each = clean-small marks P N n r t t′ y (zeros-small t 40 z) };
-          pages-few = y .bounds .few;
-          entries-few = few;
-          enough = rw c (omega arith);
-        }
+          pub anew-comes : (t : Answer) (l′ : List ℕ) → Comes (outcome v (actionOf o (take (8 * r) ws) [])) l t l′ → Comes (cameTo v l (clean k)) l t l′
+          unfolding outcome actionChecks actionGroups cleanAction
+          anew-comes t l′ c =
+              comes-as (cameTo v l (clean k)) (outcome v (actionOf o (take (8 * r) ws) [])) l t l′
+              (behind k ∙ rw (← absent-is, y, ne-eqb (m (tailWord k)) 0 (λ j. z (tail-is ∙ j)), f)
+              (sym (anew-outcome v k (take (8 * r) ws) (cleanEntries m (m 0) (m 1) k) table-entries))) c

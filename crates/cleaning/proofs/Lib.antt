@@ -1,5 +1,3 @@
--- Filling has what both calls need; Anew has the cases of the functions that write a log anew, Cleaning those of clean, and Recovering those of recover.
-mod Filling
+-- Anew has the laws of clean, Back those of recover.
 mod Anew
-mod Cleaning
-mod Recovering
+mod Back

@@ -1,37 +1,35 @@
--- The parts of a store list, as the code puts them into the list, and the journal's pairs as singles of a plan.
-use Prim.Native.Nat.{ℕ, _+_}
-use mathlib.Core.Path.{_≡_}
-use mathlib.Core.List.{List, [], _∷_, _++_}
-use Rattle.model.specs.Words.{Mem}
-use Rattle.model.specs.Journal.{dequeueWord, enqueueWord, targetWord, oldWord}
-use Rattle.model.specs.Stores.{Stores, fence, listed}
-use Rattle.model.specs.Calls as calls
-use Rattle.group.specs.declared.Plan.{Plan}
-use Rattle.group.specs.Plan.{setPair, singleStores, lastSingles}
-use Rattle.commit.specs.declared.Change.{Change}
+-- What commits a first group that stands in a lent list, as the code puts it behind the group.
+use Prim.Native.Nat.{ℕ, zero, suc, _+_, _*_, _/_, _≤_, _<_}
+use mathlib.Core.List.{List, [], _∷_}
+use lib.ListN.{length, getD}
+use Rattle.model.specs.Words.{Mem, word}
+use Rattle.model.specs.Journal.{enqueueWord, targetWord, oldWord}
+use Rattle.model.specs.Stores.{Stores, oneWord, both, storeList}
+use Rattle.model.specs.Calls.{Change, commit}
+use Rattle.stores.specs.Emitted.{Emitted}
+use Rattle.stores.specs.Added.{Group}
 
--- the model's change
-abbrev pub change : Change → calls.Change
-change c = (c .word, c .value)
+-- n changes, from the j-th pair of a list of pairs of word index and value on
+unfoldable pub changesFrom : List ℕ → ℕ → ℕ → List Change
+changesFrom l j zero = []
+changesFrom l j (suc n) = let r = changesFrom l (j + 1) n in (getD l (2 * j) 0, getD l (2 * j + 1) 0) ∷ r
 
--- a group's text and its fence
-unfoldable pub ended : Stores → ℕ → List ℕ
-ended s W = listed s W 0 ++ (fence ∷ 0 ∷ [])
+-- all changes of such a list
+abbrev pub changesOf : List ℕ → List Change
+changesOf l = changesFrom l 0 (length l / 2)
 
--- what stands in the list behind a first group: enqueue, the two targets, dequeue; e is the new enqueue position
-abbrev pub committed : ℕ → Change → Change → List ℕ
-committed e c d =
-    enqueueWord ∷ e ∷ fence ∷ 0 ∷ c .word ∷ c .value ∷ d .word ∷ d .value ∷ fence ∷ 0 ∷ dequeueWord ∷ e ∷ fence ∷ 0 ∷ []
+-- what position i logs of word t: its index, and its value as it stands
+unfoldable pub logged : Mem → ℕ → ℕ → Stores
+logged u i t = both (oneWord (targetWord i) t) (oneWord (oldWord i) (u t))
 
--- singles k and k + 1 hold what position i logs of word t
-unfoldable pub setTarget : List ℕ → ℕ → Mem → ℕ → ℕ → List ℕ
-setTarget l k m i t = setPair (setPair l k (targetWord i) t) (k + 1) (oldWord i) (m t)
+-- the volume v has a journal, and the words that the pairs of l name
+pub record Pairs (v l : List ℕ) : Type 0 where
+  pub page : 512 ≤ length v
+  pub enqueue : word v enqueueWord < 16
+  pub inside : (j : ℕ) → j < length l / 2 → 8 * getD l (2 * j) 0 + 8 ≤ length v
 
--- the first four singles of ss′ are the journal's pairs of two targets, from enqueue on, and its last singles are those of ss
-pub record TargetsLogged (u : Mem) (ss ss′ : List ℕ) (c d : Change) : Type 0 where
-  pub first : singleStores ss′ 0 4 ≡ calls.journalPairs u (u enqueueWord) (change c ∷ change d ∷ [])
-  pub last : (k : ℕ) → singleStores ss′ lastSingles k ≡ singleStores ss lastSingles k
-
--- a plan whose first singles are the journal's pairs of two targets
-abbrev pub journalled : Plan → Plan
-journalled q = record { before = 4; start = q .start; count = q .count; log = q .log; after = q .after }
+-- The group that stands in the list l up to index `end` is committed with the changes cs, whatever the group: r is the index behind the
+-- whole list, and m the list.
+pub record Committed (v l : List ℕ) (end : ℕ) (cs : List Change) (r : ℕ) (m : List ℕ) : Type 0 where
+  pub list : (l₀ : List ℕ) (s : Stores) → Group l₀ 0 s (length v / 8) end l
+      → Emitted l₀ 0 (storeList (length v / 8) (commit (word v) s cs)) r m

@@ -1,12 +1,5 @@
 -- Laws of values laid into a list, by induction on their count: turn by turn, in two parts, element by element, and from the list's start on.
-use Prim.Native.Nat.{ℕ, zero, suc, _+_, _-_, _≤_, _<_}
-use mathlib.Core.Path.{_≡_, refl, _∙_, ap}
-use mathlib.Core.List.{List, [], _∷_, _++_}
-use native.Mathlib.Omega.{arith}
-use native.Mathlib.Nat.{add-zero, zero-add}
-use native.Mathlib.Numerals.{sub-one}
-use lib.ListN.{length, set, drop, getD, length-set}
-use lib.Seq.{getD-set-same, getD-set-other}
+use Rattle.model.proofs.Prelude.{ℕ, zero, suc, _+_, _-_, _≤_, _<_, _≡_, refl, _∙_, ap, List, [], _∷_, _++_, arith, add-zero, zero-add, sub-one, length, set, drop, getD, length-set, getD-set-same, getD-set-other}
 use Rattle.model.specs.Lists.{valuesFrom}
 use Rattle.contents.specs.Laid.{laid}
 

@@ -1,11 +1,5 @@
 -- The bytes of a file, page by page: within one file page they are bytes of its data page, one after the other.
-use Prim.Native.Nat.{ℕ, _+_, _-_, _*_, _/_, _%_, min, _≤_, _<_}
-use mathlib.Core.Path.{_≡_, _∙_, ap}
-use mathlib.Core.Logic.{⊎-elim}
-use mathlib.Core.List.{List, _++_}
-use native.Mathlib.Omega.{arith}
-use lib.ListN.{length, getD, drop}
-use borrow.Author.Tests.{eq-eqb, ne-eqb}
+use Rattle.model.proofs.Prelude.{ℕ, _+_, _-_, _*_, _/_, _%_, min, _≤_, _<_, _≡_, _∙_, ap, ⊎-elim, List, _++_, arith, length, getD, drop, eq-eqb, ne-eqb}
 use Rattle.model.specs.Lists.{valuesFrom}
 use Rattle.model.specs.Words.{Mem, byteAt}
 use Rattle.model.specs.State.{File, fileByte}

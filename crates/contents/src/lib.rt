@@ -10,9 +10,6 @@ ghost use Rattle.model.specs.State.{fileByte};
 ghost use Rattle.files.specs.State.{fileFrom};
 ghost use Rattle.contents.specs.Laid.{laid, pageByte, tableByte, Within};
 
-// The bytes of a page.
-const PAGE: usize = 512;
-
 // Answers the lesser of two numbers.
 // Example: least(3, 5) is 3, and least(4, 4) is 4.
 fn least(a: usize, b: usize) -> usize
@@ -68,7 +65,7 @@ fn lay_piece(v: &[u8], d: usize, o: usize, buffer: &mut [u8], from: usize, n: us
         lay_zeros(buffer, from, n);
         return;
     }
-    lay_bytes(v, PAGE * d + o, buffer, from, n)
+    lay_bytes(v, layout::PAGE * d + o, buffer, from, n)
 }
 
 // Lays a file's bytes start, start + 1, .. into the buffer, from its first byte on: count bytes, a file page at a time.
@@ -76,15 +73,16 @@ fn lay_piece(v: &[u8], d: usize, o: usize, buffer: &mut [u8], from: usize, n: us
 // Example: lay_file(v, table, 1020, buffer, 80) lays 4 bytes of file page 1, then 76 bytes of file page 2.
 pub fn lay_file(v: &[u8], table: &[u64; 128], start: usize, buffer: &mut [u8], count: usize)
     requires { ⌜ Within (length (now v)) (now table) × (start + count ≤ 65536) × (count ≤ length (now buffer)) ⌝ }
-    ensures { λ _. ⌜ now (buffer .exit) ≡ laid (now (buffer .entry)) 0 (tableByte (word (now (v .entry))) (now (table .entry))) start count ⌝ }
+    ensures { λ _. ⌜ now (buffer .exit) ≡ laid (now (buffer .entry)) 0 (tableByte (word (now (v .entry))) (now (table .entry)))
+        start count ⌝ }
 {
     let mut x = start;
     let mut at: usize = 0;
     let mut left = count;
     while 0 < left {
-        let o = x % PAGE;
-        let n = least(PAGE - o, left);
-        let d = files::get(table, x / PAGE) as usize;
+        let o = x % layout::PAGE;
+        let n = least(layout::PAGE - o, left);
+        let d = files::get(table, x / layout::PAGE) as usize;
         lay_piece(v, d, o, buffer, at, n);
         x = x + n;
         at = at + n;

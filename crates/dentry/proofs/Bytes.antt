@@ -1,14 +1,5 @@
 -- A name field by its words: 32 bytes are a name and zeros exactly if each of the four words has its part of the name's bytes and then zeros.
-use Prim.Native.Nat.{ℕ, zero, suc, _+_, _*_, _-_, _/_, _%_, _^_, _≤_, _<_, min}
-use mathlib.Core.Path.{_≡_, refl, sym, _∙_, ap}
-use mathlib.Core.Bool.{Bool, true, false, cond, _&&_}
-use mathlib.Core.List.{List, [], _∷_, _++_}
-use native.Mathlib.Omega.{arith}
-use native.Mathlib.Numerals.{add-one}
-use native.Mathlib.Nat.{zero-add, add-zero, div-one, div-div-eq-div-mul, pow-suc, zero-min, min-zero, suc-min-suc}
-use lib.ListN.{length, take, drop, length-take}
-use lib.Dec.{eqb}
-use borrow.Author.Tests.{eq-eqb, ne-eqb, le-leb}
+use Rattle.model.proofs.Prelude.{ℕ, zero, suc, _+_, _*_, _-_, _/_, _%_, _^_, _≤_, _<_, min, _≡_, refl, sym, _∙_, ap, Bool, true, false, cond, _&&_, List, [], _∷_, _++_, arith, add-one, zero-add, add-zero, div-one, div-div-eq-div-mul, pow-suc, zero-min, min-zero, suc-min-suc, length, take, drop, length-take, eq-eqb, ne-eqb, le-leb}
 use Rattle.model.specs.Lists.{all, valuesFrom}
 use Rattle.model.specs.Words.{Mem, byteAt}
 use Rattle.model.specs.Entry.{nameField, nameByteOk, isZero, nameOk, fieldOk}

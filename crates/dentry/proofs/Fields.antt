@@ -1,12 +1,5 @@
 -- The cases of the functions' answers: a word byte by byte, a name word by word, an entry by its kind.
-use Prim.Native.Nat.{ℕ, zero, suc, _-_, _/_, _%_, _≤_, _<_}
-use mathlib.Core.Path.{_≡_}
-use mathlib.Core.Bool.{Bool, true, false, not}
-use mathlib.Core.List.{List}
-use native.Mathlib.Omega.{arith}
-use native.Mathlib.Numerals.{sub-one}
-use lib.Dec.{eqb}
-use borrow.Author.Tests.{eq-eqb, ne-eqb, lt-leb, le-leb, lt-ltb, le-ltb}
+use Rattle.model.proofs.Prelude.{ℕ, zero, suc, _-_, _/_, _%_, _≤_, _<_, _≡_, Bool, true, false, not, List, arith, sub-one, eqb, eq-eqb, ne-eqb, lt-leb, le-leb, lt-ltb, le-ltb}
 use Rattle.model.specs.Entry.{addEntry, nameOk, fieldOk, nameEntryOk}
 use Rattle.words.proofs.Cond.{asked-true, asked-false}
 use Rattle.log.specs.Entries.{fieldOf, meant}

@@ -1,20 +1,13 @@
 -- The two passes together: where the index holds the whole log, the places listed are those of the log's names; a log that adds more
 -- different names than the large index is to hold leaves more than 224 of them standing.
-use Prim.Native.Nat.{ℕ, _+_, _*_, _-_, _^_, _≤_, _<_}
-use mathlib.Core.Path.{_≡_, sym, _∙_, ap}
-use mathlib.Core.Bool.{true, false, not, _&&_}
-use mathlib.Core.List.{List, [], map}
-use native.Mathlib.Omega.{arith}
-use lib.Dec.{leb}
-use lib.ListN.{length, getD, replicate, length-map, length-replicate}
-use borrow.Author.Tests.{le-leb, lt-leb, leb-true, eqb-true, not-true, not-false}
+use Rattle.model.proofs.Prelude.{ℕ, _+_, _*_, _-_, _^_, _≤_, _<_, _≡_, sym, _∙_, ap, true, false, not, _&&_, List, [], map, arith, leb, length, getD, replicate, length-map, length-replicate, le-leb, lt-leb, leb-true, eqb-true, not-true, not-false}
 use Rattle.model.specs.Lists.{all, foldl, isSome}
 use Rattle.model.specs.Words.{Mem, word}
 use Rattle.model.specs.Layout.{isDirectory, mostNames}
 use Rattle.model.specs.Journal.{view}
 use Rattle.model.specs.Entry.{entryAt, nameEntryOk}
 use Rattle.model.specs.Log.{logPages}
-use Rattle.model.specs.State.{Names, nameStep, namesOf}
+use Rattle.model.specs.State.{nameStep, namesOf}
 use Rattle.model.specs.Accept.{logOk}
 use Rattle.model.proofs.Tests.{by-bool, clash}
 use Rattle.model.proofs.Lists.{all-replicate}
@@ -145,7 +138,7 @@ fold-done m L N b M g r t x h e = h .done x e
 
 -- The names of a directory by its inode.
 
-pub inode-in : (m : Mem) (L P N d : ℕ) → Ready m L P N → isDirectory d ≡ true → 64 * d + 576 ≤ L
+pub inode-in : (m : Mem) (L P N d : ℕ) → Ready m L P N → isDirectory (view m) d ≡ true → 64 * d + 576 ≤ L
 inode-in m L P N d r h = let a = r .bytes in let b = r .room in let e = eqb-true d 0 h in omega arith
 
 module _ (m : Mem) (L P N d : ℕ) (ready : Ready m L P N) (g : Log) (l : LogOf m L P N d g) where
@@ -155,7 +148,7 @@ module _ (m : Mem) (L P N d : ℕ) (ready : Ready m L P N) (g : Log) (l : LogOf 
       let b = ready .room in
       record { inside = l .inside h; apart = l .apart h; placed = l .placed h; some = omega arith }
 
-  module _ (dir : isDirectory d ≡ true) (x : Named) (t : List ℕ) where
+  module _ (dir : isDirectory (view m) d ≡ true) (x : Named) (t : List ℕ) where
     pub names-lost : not (g .found) ≡ true → x .good ≡ false → length t ≡ 224
         → Folds m L (logOk (view m) P N d && leb (length (namesOf (view m) P N d)) mostNames) (namesOf (view m) P N d) x t
     unfolding logOk

@@ -1,12 +1,5 @@
 -- The loops over a log: a step takes the index, or the places that stand, one entry on, and an entry that is none of a directory's decides.
-use Prim.Native.Nat.{ℕ, _+_, _*_, _-_, _/_, _%_, _≤_, _<_}
-use mathlib.Core.Path.{_≡_, refl, sym, _∙_, ap}
-use mathlib.Core.Bool.{Bool, true, false, not, _&&_}
-use mathlib.Core.List.{List, [], map}
-use native.Mathlib.Omega.{arith}
-use lib.Dec.{eqb}
-use lib.ListN.{length}
-use borrow.Author.Tests.{eqb-true, leb-true}
+use Rattle.model.proofs.Prelude.{ℕ, _+_, _*_, _-_, _/_, _%_, _≤_, _<_, _≡_, refl, sym, _∙_, ap, Bool, true, false, not, _&&_, List, [], map, arith, eqb, length, eqb-true, leb-true}
 use Rattle.model.specs.Lists.{bit, all, foldl}
 use Rattle.model.specs.Words.{Mem}
 use Rattle.model.specs.Entry.{entryAt, nameEntryOk}

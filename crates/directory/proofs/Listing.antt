@@ -1,12 +1,5 @@
 -- The loop that lists what stands: the places listed so far, then those of the entries that are left, are those of all.
-use Prim.Native.Nat.{ℕ, suc, _+_, _-_, _/_, _≤_, _<_}
-use mathlib.Core.Path.{_≡_, sym, _∙_, ap}
-use mathlib.Core.Bool.{Bool, true, false}
-use mathlib.Core.List.{List, [], _∷_, _++_, append-nil, append-assoc}
-use native.Mathlib.Omega.{arith}
-use lib.ListN.{length, take, set, length-set, length-append, length-take}
-use lib.Seq.{take-suc-set}
-use borrow.Author.Tests.{le-leb, lt-leb}
+use Rattle.model.proofs.Prelude.{ℕ, suc, _+_, _-_, _/_, _≤_, _<_, _≡_, sym, _∙_, ap, Bool, true, false, List, [], _∷_, _++_, append-nil, append-assoc, arith, length, take, set, length-set, length-append, length-take, take-suc-set, le-leb, lt-leb}
 use Rattle.model.specs.Lists.{filter}
 use Rattle.model.specs.Words.{Mem}
 use Rattle.model.proofs.Tests.{clash}

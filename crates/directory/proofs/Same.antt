@@ -1,13 +1,6 @@
 -- Names by their words: where two name fields are as they should be, the names are the same exactly if their lengths and four words are,
 -- since words below 2 ^ 64 are the same exactly if their bytes are.
-use Prim.Native.Nat.{ℕ, zero, suc, _+_, _*_, _-_, _/_, _%_, _^_, _≤_, _<_}
-use mathlib.Core.Path.{_≡_, refl, sym, _∙_, ap, ap₂}
-use mathlib.Core.Bool.{true}
-use mathlib.Core.List.{List, [], _∷_, _++_}
-use native.Mathlib.Omega.{arith}
-use native.Mathlib.Nat.{div-one, div-div-eq-div-mul, pow-succ', add-zero, add-assoc}
-use lib.ListN.{length, take, drop, getD, replicate, length-take, length-drop, take-append-drop}
-use borrow.Author.Tests.{eqb-true, leb-true}
+use Rattle.model.proofs.Prelude.{ℕ, zero, suc, _+_, _*_, _-_, _/_, _%_, _^_, _≤_, _<_, _≡_, refl, sym, _∙_, ap, ap₂, true, List, [], _∷_, _++_, arith, div-one, div-div-eq-div-mul, pow-succ', add-zero, add-assoc, length, take, drop, getD, replicate, length-take, length-drop, take-append-drop, eqb-true, leb-true}
 use Rattle.model.specs.Lists.{all}
 use Rattle.model.specs.Words.{Mem, byteAt}
 use Rattle.model.specs.Entry.{nameField, isZero, fieldOk}

@@ -1,14 +1,6 @@
 -- What an index tells of a log's names. Entry by entry: the adds that stand are those that stood, but for one of the entry's name, and the
 -- entry itself if it adds; and an index has at most half as many names as there are entries and names that stand.
-use Prim.Native.Nat.{ℕ, _+_, _*_, _-_, _/_, _%_, _^_, _≤_, _<_}
-use mathlib.Core.Path.{_≡_, refl, sym, _∙_, ap, subst}
-use mathlib.Core.Logic.{⊎-elim}
-use mathlib.Core.Bool.{Bool, true, false, not, cond, _&&_, _||_}
-use mathlib.Core.List.{List, [], _∷_, _++_, map, map-append, append-nil, append-assoc}
-use native.Mathlib.Omega.{arith}
-use lib.Dec.{eqb, leb}
-use lib.ListN.{length, take, replicate, length-replicate, length-append, length-map}
-use borrow.Author.Tests.{eq-eqb, ne-eqb, eqb-true, le-leb, leb-true}
+use Rattle.model.proofs.Prelude.{ℕ, _+_, _*_, _-_, _/_, _%_, _^_, _≤_, _<_, _≡_, refl, sym, _∙_, ap, subst, ⊎-elim, Bool, true, false, not, cond, _&&_, _||_, List, [], _∷_, _++_, map, map-append, append-nil, append-assoc, arith, eqb, leb, length, take, replicate, length-replicate, length-append, length-map, eq-eqb, ne-eqb, eqb-true, le-leb, leb-true}
 use Rattle.model.specs.Lists.{bit, all, filter, foldl, has, distinct, sameList}
 use Rattle.model.specs.Words.{Mem}
 use Rattle.model.specs.Entry.{Entry as Full, writeEntry, sizeEntry, addEntry, removeEntry, noEntry, entryAt, nameField, nameEntryOk}

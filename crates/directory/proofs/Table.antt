@@ -1,18 +1,10 @@
 -- A table of places, read one place after another.
-use Prim.Native.Nat.{ℕ, zero, suc, _+_, _*_, _-_, _≤_, _<_}
-use mathlib.Core.Path.{_≡_, sym, _∙_}
-use mathlib.Core.Bool.{true}
-use mathlib.Core.List.{List, _∷_}
-use native.Mathlib.Omega.{arith}
-use native.Mathlib.Numerals.{sub-one}
-use lib.ListN.{length, take, getD, length-map, length-take}
-use lib.Seq.{ext-getD, getD-take}
-use borrow.Author.Tests.{leb-true}
+use Rattle.model.proofs.Prelude.{ℕ, zero, suc, _+_, _*_, _-_, _≤_, _<_, _≡_, sym, _∙_, true, List, _∷_, arith, sub-one, length, take, getD, length-map, length-take, ext-getD, getD-take, leb-true}
 use Rattle.model.specs.Lists.{all, valuesFrom}
 use Rattle.model.specs.Words.{Mem}
 use Rattle.model.proofs.Tests.{ands}
 use Rattle.model.proofs.Lists.{all-cons, length-values, values-at}
-use Rattle.directory.specs.Fields.{fieldAt, nameAt}
+use Rattle.directory.specs.Fields.{nameAt}
 use Rattle.directory.specs.Places.{placesFrom, standing, placeOk, Filled}
 
 -- a table's first places
@@ -40,9 +32,6 @@ module _ (m : Mem) (L : ℕ) (t : List ℕ) (n i p : ℕ) (a : all (placeOk m L)
 
   pub place-in : 8 * (8 * p) + 64 ≤ L
   place-in = let k = first-ok .0 in let h : 64 * p + 64 ≤ L = leb-true (64 * p + 64) L (search ands) in omega arith
-
-  pub place-named : fieldAt m (8 * p) ≡ true
-  place-named = let k = first-ok .0 in search ands
 
   pub places-skip : all (placeOk m L) (placesFrom t (i + 1) (n - 1)) ≡ true
   places-skip = first-ok .1

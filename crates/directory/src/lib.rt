@@ -22,25 +22,22 @@ use log::Entry;
 use log::Log;
 use log::Step;
 
-// The names that a directory has at most, and the places of a table.
-const MOST_NAMES: usize = 224;
-
 // Reads the i-th place of a table and answers it.
-// Example: of a table that begins 264, 271 place(table, 1) is 271.
-pub fn place(table: &[u16; 224], i: usize) -> usize
+// Example: of a table that begins 264, 271 place(places, 1) is 271.
+pub fn place(places: &[u16; 224], i: usize) -> usize
     requires { ⌜ i < 224 ⌝ }
-    ensures { λ r. ⌜ (r ≡ getD (now (table .entry)) i 0) × (r < 65536) ⌝ }
+    ensures { λ r. ⌜ (r ≡ getD (now (places .entry)) i 0) × (r < 65536) ⌝ }
 {
-    words::wide_index(table[i])
+    words::wide_index(places[i])
 }
 
 // Makes p the i-th place of a table. Answers nothing.
-// Example: put_place(table, 1, 272) makes a table that began 264, 271 begin 264, 272.
-fn put_place(table: &mut [u16; 224], i: usize, p: usize)
+// Example: put_place(places, 1, 272) makes a table that began 264, 271 begin 264, 272.
+fn put_place(places: &mut [u16; 224], i: usize, p: usize)
     requires { ⌜ (i < 224) × (p < 65536) ⌝ }
-    ensures { λ _. ⌜ now (table .exit) ≡ set (now (table .entry)) i p ⌝ }
+    ensures { λ _. ⌜ now (places .exit) ≡ set (now (places .entry)) i p ⌝ }
 {
-    table[i] = p as u16;
+    places[i] = p as u16;
 }
 
 // Answers the place of the entry that a step handed back: the cursor after it stands eight words behind its first word.
@@ -157,11 +154,11 @@ pub fn not_good() -> Named
 
 // Puts the places of the names that stand into a table, in log order, and answers how many; not good where they are more than 224.
 // Example: entries at words 2112, 2120 and 2128 that add "a", add "b" and remove "a" leave one name, at place 265.
-fn list_standing(v: &[u8], log: Log, index: &[u16], table: &mut [u16; 224]) -> Named
+fn list_standing(v: &[u8], log: Log, index: &[u16], places: &mut [u16; 224]) -> Named
     requires { ⌜ Inside (word (now v)) (length (now v)) log × (all isPlaced (logWords (word (now v)) log) ≡ true)
-        × Slots (length (now v)) (now index) × (length (now table) ≡ 224) ⌝ }
+        × Slots (length (now v)) (now index) × (length (now places) ≡ 224) ⌝ }
     ensures { λ r. ⌜ Listed (placesOf (word (now (v .entry))) (now (index .entry)) (logWords (word (now (v .entry))) log)) r
-        (now (table .exit)) ⌝ }
+        (now (places .exit)) ⌝ }
 {
     let end = log.end;
     let pages = log.pages;
@@ -179,10 +176,10 @@ fn list_standing(v: &[u8], log: Log, index: &[u16], table: &mut [u16; 224]) -> N
         left = left - 1;
         let e = s.entry;
         if stands(v, e, p, index) {
-            if count == MOST_NAMES {
+            if count == layout::MOST_NAMES {
                 return not_good();
             }
-            put_place(table, count, p);
+            put_place(places, count, p);
             count = count + 1;
         }
     }
@@ -206,16 +203,16 @@ fn fold_with(
     inodes: usize,
     index: &mut [u16],
     most: usize,
-    table: &mut [u16; 224],
+    places: &mut [u16; 224],
 ) -> Fold
     requires { ⌜ FoundLog (word (now v)) (length (now v)) log × (now index ≡ replicate (length (now index)) 0)
-        × (length (now index) ≤ 65536) × (most + 1 < length (now index)) × (length (now table) ≡ 224) ⌝ }
+        × (length (now index) ≤ 65536) × (most + 1 < length (now index)) × (length (now places) ≡ 224) ⌝ }
     ensures { λ r. ⌜ FoldsWith (word (now (v .entry))) (length (now (v .entry))) inodes most (length (now (index .entry))) log r
-        (now (table .exit)) ⌝ }
+        (now (places .exit)) ⌝ }
 {
     let indexed = index_names(v, log, inodes, index, most);
     match indexed {
-        Indexed::Whole => Fold::Done(list_standing(v, log, index, table)),
+        Indexed::Whole => Fold::Done(list_standing(v, log, index, places)),
         Indexed::Bad => Fold::Done(not_good()),
         Indexed::Full => Fold::Full,
     }
@@ -223,24 +220,24 @@ fn fold_with(
 
 // The same with an index for logs that add few different names.
 // Example: of a log that adds 192 different names it is Fold::Done, and of one that adds 193 Fold::Full.
-fn fold_few(v: &[u8], log: Log, inodes: usize, table: &mut [u16; 224]) -> Fold
-    requires { ⌜ FoundLog (word (now v)) (length (now v)) log × (length (now table) ≡ 224) ⌝ }
-    ensures { λ r. ⌜ FoldsWith (word (now (v .entry))) (length (now (v .entry))) inodes 192 256 log r (now (table .exit)) ⌝ }
+fn fold_few(v: &[u8], log: Log, inodes: usize, places: &mut [u16; 224]) -> Fold
+    requires { ⌜ FoundLog (word (now v)) (length (now v)) log × (length (now places) ≡ 224) ⌝ }
+    ensures { λ r. ⌜ FoldsWith (word (now (v .entry))) (length (now (v .entry))) inodes 192 256 log r (now (places .exit)) ⌝ }
 {
     let mut index = [0u16; 256];
-    fold_with(v, log, inodes, &mut index, 192, table)
+    fold_with(v, log, inodes, &mut index, 192, places)
 }
 
 // The same with an index for all logs: an accepted volume's log adds at most 14,448 different names, since each but 224 of them takes a
 // remove too, and 4,096 pages hold 28,672 entries.
 // Example: of a log that adds 224 different names it is good, and of one that adds 225 and removes none it is not.
-fn fold_many(v: &[u8], log: Log, inodes: usize, table: &mut [u16; 224]) -> Named
-    requires { ⌜ FoundLog (word (now v)) (length (now v)) log × (length (now table) ≡ 224) ⌝ }
+fn fold_many(v: &[u8], log: Log, inodes: usize, places: &mut [u16; 224]) -> Named
+    requires { ⌜ FoundLog (word (now v)) (length (now v)) log × (length (now places) ≡ 224) ⌝ }
     ensures { λ r. ⌜ Folds (word (now (v .entry))) (length (now (v .entry))) (namesFit (word (now (v .entry))) inodes log)
-        (logNames (word (now (v .entry))) log) r (now (table .exit)) ⌝ }
+        (logNames (word (now (v .entry))) log) r (now (places .exit)) ⌝ }
 {
     let mut index = [0u16; 16384];
-    let fold = fold_with(v, log, inodes, &mut index, 14448, table);
+    let fold = fold_with(v, log, inodes, &mut index, 14448, places);
     match fold {
         Fold::Done(named) => named,
         Fold::Full => not_good(),
@@ -249,21 +246,22 @@ fn fold_many(v: &[u8], log: Log, inodes: usize, table: &mut [u16; 224]) -> Named
 
 // Puts the places of the names of directory d into a table, and answers how many; not good where its log is not one that an
 // accepted volume has (its tail is not right, its walk does not end, or an entry is none of a directory's), or more than 224 names stand.
-// Example: of a volume just formatted names_of(v, 0, pages, inodes, table) is good and has 0 names.
-pub fn names_of(v: &[u8], d: usize, pages: usize, inodes: usize, table: &mut [u16; 224]) -> Named
-    requires { ⌜ Ready (word (now v)) (length (now v)) pages inodes × (isDirectory d ≡ true) × (length (now table) ≡ 224) ⌝ }
+// Example: of a volume just formatted names_of(v, 0, pages, inodes, places) is good and has 0 names.
+pub fn names_of(v: &[u8], d: usize, pages: usize, inodes: usize, places: &mut [u16; 224]) -> Named
+    requires { ⌜ Ready (word (now v)) (length (now v)) pages inodes × (isDirectory (view (word (now v))) d ≡ true)
+        × (length (now places) ≡ 224) ⌝ }
     ensures { λ r. ⌜ Folds (word (now (v .entry))) (length (now (v .entry)))
         (logOk (view (word (now (v .entry)))) pages inodes d
         && leb (length (namesOf (view (word (now (v .entry)))) pages inodes d)) mostNames)
-        (namesOf (view (word (now (v .entry)))) pages inodes d) r (now (table .exit)) ⌝ }
+        (namesOf (view (word (now (v .entry)))) pages inodes d) r (now (places .exit)) ⌝ }
 {
     let log = log::find_log(v, d, pages, inodes);
     if !log.found {
         return not_good();
     }
-    let fold = fold_few(v, log, inodes, table);
+    let fold = fold_few(v, log, inodes, places);
     match fold {
         Fold::Done(named) => named,
-        Fold::Full => fold_many(v, log, inodes, table),
+        Fold::Full => fold_many(v, log, inodes, places),
     }
 }

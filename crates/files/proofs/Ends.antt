@@ -1,15 +1,6 @@
 -- The end of a file: a loop that goes down from n asks of the last of n numbers, and then of those below it; and a word is 0 exactly if its
 -- eight bytes are, so that bytes are asked by words.
-use Prim.Native.Nat.{ℕ, zero, suc, _+_, _*_, _-_, _/_, _%_, _≤_, _<_}
-use mathlib.Core.Path.{_≡_, refl, sym, _∙_}
-use mathlib.Core.Bool.{Bool, true, false, not, cond, or-true}
-use mathlib.Core.List.{List}
-use native.Mathlib.Omega.{arith}
-use native.Mathlib.Nat.{add-zero, zero-div}
-use native.Mathlib.Numerals.{sub-one}
-use lib.ListN.{getD}
-use lib.Dec.{eqb}
-use borrow.Author.Tests.{eq-eqb, ne-eqb, eqb-true, le-ltb, lt-ltb}
+use Rattle.model.proofs.Prelude.{ℕ, zero, suc, _+_, _*_, _-_, _/_, _%_, _≤_, _<_, _≡_, refl, sym, _∙_, Bool, true, false, not, cond, or-true, List, arith, add-zero, zero-div, sub-one, getD, eqb, eq-eqb, ne-eqb, eqb-true, le-ltb, lt-ltb}
 use Rattle.model.specs.Words.{Mem, word, byteAt}
 use Rattle.model.specs.Lists.{allBelow}
 use Rattle.model.specs.State.{fileByte}

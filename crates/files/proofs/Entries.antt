@@ -1,14 +1,7 @@
 -- One entry: whether a file's log may hold it, and what it does. Each kind is a case.
-use Prim.Native.Nat.{ℕ, _+_, _*_, _-_, _/_, _≤_, _<_}
-use mathlib.Core.Path.{_≡_, refl, sym, _∙_, ap, fun-ext}
-use mathlib.Core.Bool.{Bool, true, false, cond, not}
-use mathlib.Core.List.{List}
-use native.Mathlib.Omega.{arith}
+use Rattle.model.proofs.Prelude.{ℕ, _+_, _*_, _-_, _/_, _≤_, _<_, _≡_, refl, sym, _∙_, ap, fun-ext, Bool, true, false, cond, not, List, arith, leb, length, getD, List·getD-eq-default, le-leb, lt-leb, leb-true, ltb-true, not-false}
 use mir.Val.{Fits}
 use mir.Syntax.{w64}
-use lib.Dec.{leb}
-use lib.ListN.{length, getD, List·getD-eq-default}
-use borrow.Author.Tests.{le-leb, lt-leb, leb-true, ltb-true, not-false}
 use Rattle.model.specs.Entry.{Entry as Full, writeEntry, sizeEntry, addEntry, removeEntry, noEntry, fileEntryOk}
 use Rattle.model.specs.State.{File, fileStep}
 use Rattle.model.proofs.Tests.{within, inside, outside, by-lt, ands}

@@ -1,8 +1,5 @@
 -- One turn of the fold over a file's log: the entry that a step hands back is the first of those that are left.
-use Prim.Native.Nat.{ℕ, _-_, _≤_, _<_}
-use mathlib.Core.Path.{_≡_, sym, _∙_, ap}
-use mathlib.Core.Bool.{Bool, true, false, not}
-use mathlib.Core.List.{List, []}
+use Rattle.model.proofs.Prelude.{ℕ, _-_, _≤_, _<_, _≡_, sym, _∙_, ap, Bool, true, false, not, List, []}
 use Rattle.model.specs.Words.{Mem}
 use Rattle.model.specs.Lists.{all, foldl}
 use Rattle.model.specs.Entry.{entryAt, fileEntryOk}

@@ -1,12 +1,5 @@
 -- A table filled from an index on: the turns of the loops, and what each element is. By induction on the count of values.
-use Prim.Native.Nat.{ℕ, zero, suc, _+_, _-_, _≤_, _<_}
-use mathlib.Core.Path.{_≡_, refl, _∙_}
-use mathlib.Core.Bool.{cond}
-use mathlib.Core.List.{List}
-use native.Mathlib.Omega.{arith}
-use native.Mathlib.Numerals.{sub-one}
-use lib.ListN.{length, getD, set, length-set}
-use lib.Seq.{getD-set-same, getD-set-other}
+use Rattle.model.proofs.Prelude.{ℕ, zero, suc, _+_, _-_, _≤_, _<_, _≡_, refl, _∙_, cond, List, arith, sub-one, length, getD, set, length-set, getD-set-same, getD-set-other}
 use Rattle.model.proofs.Tests.{within, inside, outside, by-eq, by-range}
 use Rattle.files.specs.State.{filled}
 

@@ -1,11 +1,5 @@
 -- A file's state by its inode: the entries that the fold met are those of the model, and a table of zeros is the empty file.
-use Prim.Native.Nat.{ℕ, _+_, _*_, _≤_, _<_}
-use mathlib.Core.Path.{_≡_, sym, _∙_, ap, fun-ext}
-use mathlib.Core.Bool.{Bool, true, false, not}
-use mathlib.Core.List.{List}
-use native.Mathlib.Omega.{arith}
-use lib.ListN.{length, replicate, getD-replicate, length-replicate, List·getD-eq-default}
-use borrow.Author.Tests.{ne-eqb, not-true, not-false}
+use Rattle.model.proofs.Prelude.{ℕ, _+_, _*_, _≤_, _<_, _≡_, sym, _∙_, ap, fun-ext, Bool, true, false, not, List, arith, length, replicate, getD-replicate, length-replicate, List·getD-eq-default, ne-eqb, not-true, not-false}
 use Rattle.model.specs.Words.{Mem}
 use Rattle.model.specs.Journal.{view}
 use Rattle.model.specs.Log.{entries}

@@ -1,7 +1,5 @@
 -- An answer handed on as one number: what `code` answered of it is the number of what the answer means.
-use Prim.Native.Nat.{ℕ}
-use mathlib.Core.Path.{_≡_, _∙_, ap}
-use mathlib.Core.Option.{Option}
+use Rattle.model.proofs.Prelude.{ℕ, _≡_, _∙_, ap, Option}
 use lib.IntN.{ℤ}
 use mir.Syntax.{w64}
 use mir.Val.{SFits, toZ, ofZ}

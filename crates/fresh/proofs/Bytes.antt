@@ -1,11 +1,5 @@
 -- A word of a buffer is made of eight of its bytes; so where the buffer has the bytes of the pages, its words are theirs.
-use Prim.Native.Nat.{ℕ, _+_, _-_, _*_, _/_, _%_, _≤_, _<_}
-use mathlib.Core.Path.{_≡_, _∙_, ap}
-use mathlib.Core.List.{List}
-use native.Mathlib.Omega.{arith}
-use native.Mathlib.Nat.{add-assoc, zero-add}
-use lib.ListN.{length, getD, replicate, getD-replicate, length-replicate}
-use borrow.Author.Tests.{lt-ltb, le-ltb}
+use Rattle.model.proofs.Prelude.{ℕ, _+_, _-_, _*_, _/_, _%_, _≤_, _<_, _≡_, _∙_, ap, List, arith, add-assoc, zero-add, length, getD, replicate, getD-replicate, length-replicate, lt-ltb, le-ltb}
 use Rattle.model.specs.Words.{Mem, word, byteAt}
 use Rattle.model.specs.Calls.{pagesCovered}
 use Rattle.model.proofs.Tests.{by-lt, by-range, inside, outside}

@@ -1,11 +1,5 @@
 -- For callers: where the gate refuses, so does a call with further checks; where it answers a number, the further checks decide.
-use Prim.Native.Nat.{ℕ, _+_, _*_, _≤_, _<_}
-use mathlib.Core.Path.{_≡_, refl, sym, _∙_, ap}
-use mathlib.Core.Bool.{Bool, true, false, cond}
-use mathlib.Core.List.{List, [], _∷_, _++_}
-use mathlib.Core.Option.{Option, some}
-use native.Mathlib.Omega.{arith}
-use lib.ListN.{length}
+use Rattle.model.proofs.Prelude.{ℕ, _+_, _*_, _≤_, _<_, _≡_, refl, sym, _∙_, ap, Bool, true, false, cond, List, [], _∷_, _++_, Option, some, arith, length}
 use types.Run.{miss}
 use Rattle.model.specs.Words.{word}
 use Rattle.model.specs.Journal.{dequeueWord, enqueueWord, journalOk, isOpen}
@@ -115,9 +109,6 @@ module _ (v : List ℕ) {d : ℕ} (cs : Checks) (r : Answer) (places marks : Lis
   gate-long = volume-long v (tables .volume)
 
   -- words 0 and 1 are there
-  pub gate-word-0 : 8 * 0 + 8 ≤ length v
-  gate-word-0 = let l = gate-long in omega arith
-
   pub gate-word-1 : 8 * 1 + 8 ≤ length v
   gate-word-1 = let l = gate-long in omega arith
 

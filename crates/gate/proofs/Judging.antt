@@ -1,12 +1,5 @@
 -- The judge's answer is the second check and its count that of the directory's names; an open journal is the third check.
-use Prim.Native.Nat.{ℕ, _≤_, _<_}
-use mathlib.Core.Path.{_≡_, sym, _∙_}
-use mathlib.Core.Bool.{Bool, true, false, not}
-use mathlib.Core.List.{List, [], _∷_}
-use mathlib.Core.Option.{some}
-use native.Mathlib.Omega.{arith}
-use borrow.Author.Tests.{lt-ltb, le-ltb, not-true, not-false}
-use lib.ListN.{length}
+use Rattle.model.proofs.Prelude.{ℕ, _≤_, _<_, _≡_, sym, _∙_, Bool, true, false, not, List, [], _∷_, some, arith, lt-ltb, le-ltb, not-true, not-false, length}
 use Rattle.model.specs.Words.{word}
 use Rattle.model.specs.Journal.{isOpen}
 use Rattle.model.specs.Answer.{done, firstRefusal, journalOpen}

@@ -1,26 +1,23 @@
 -- For the calls that fill a store list, recover apart: the gate's checks come first, then the call's own; the words filled are those of its groups.
-use Prim.Native.Nat.{ℕ, _*_, _≤_}
-use mathlib.Core.Path.{_≡_, refl, sym, _∙_}
-use mathlib.Core.Bool.{true}
-use mathlib.Core.List.{List, _++_}
-use mathlib.Core.Option.{Option, some}
-use native.Mathlib.Omega.{arith}
-use lib.ListN.{length}
+use Rattle.model.proofs.Prelude.{ℕ, _*_, _≤_, _≡_, refl, sym, _∙_, ap, true, List, _∷_, _++_, Option, some, arith, lt-ltb, ltb, length}
 use Rattle.model.specs.Words.{word}
+use Rattle.model.specs.Journal.{isOpen, view}
 use Rattle.model.specs.Stores.{storeList}
 use Rattle.model.specs.FileMap.{Call}
-use Rattle.model.specs.Answer as model
-use Rattle.model.specs.Answer.{refused, done, Checks, firstRefusal, mapAnswer, filledFrom}
+use Rattle.model.specs.Answer.{done, Checks, firstRefusal, mapAnswer}
 use Rattle.model.specs.Calls.{checks, groups}
-use Rattle.model.specs.Public.{volumeChecks, closedChecks, needsClosed, callChecks, fills, callAnswer, callList}
-use Rattle.stores.specs.Emitted.{Emitted}
-use Rattle.stores.proofs.Emitting.{emitted-parts}
+use Rattle.model.specs.Public.{volumeChecks, closedChecks, needsClosed, callChecks, fills}
+use Rattle.model.proofs.Tests.{by-lt}
+use Rattle.model.proofs.Crash.Journal.{closed-view}
+use Rattle.inodes.specs.Judged.{Closed}
 use Rattle.answer.specs.Meaning.{meaning, numbered}
+use Rattle.answer.specs.Comes.{Comes, cameTo}
 use Rattle.answer.specs.declared.Answer.{Answer}
 use Rattle.answer.specs.declared.Answer.the-variants.{Number}
-use Rattle.gate.specs.Gated.{fillChecks, Gated}
-use Rattle.gate.proofs.Gates.{refusal-of, checks-after, same-refusal, none-refuses, gate-refused, gate-passed}
 use Rattle.answer.proofs.Codes.{NoNumber}
+use Rattle.answer.proofs.Coming.{comes-refused}
+use Rattle.gate.specs.Gated.{fillChecks, Gated}
+use Rattle.gate.proofs.Gates.{last-passes, refusal-of, checks-after, same-refusal, none-refuses, gate-refused, gate-passed}
 
 -- the words that call c fills on the volume v
 abbrev pub filledWords : List ℕ → Call → List ℕ
@@ -37,62 +34,60 @@ unfolding callChecks fillChecks closedChecks volumeChecks
 all-checks v l c n = rw n
 
 -- what the call comes to
-pub comes : (v l : List ℕ) (c : Call) → needsClosed c ≡ true → fills (length v) (word v) (length l) c
-    ≡ firstRefusal (fillChecks (length v) (word v) (length l) ++ ownChecks v c) (done (filledWords v c))
+pub came : (v l : List ℕ) (c : Call) → needsClosed c ≡ true
+    → cameTo v l c ≡ firstRefusal (fillChecks (length v) (word v) (length l) ++ ownChecks v c) (done (filledWords v c))
 unfolding fills
-comes v l c n = rw (all-checks v (length l) c n)
+came v l c n = rw (all-checks v (length l) c n)
 
--- a refusal leaves the list
-pub told : (v l : List ℕ) (c : Call) (k : ℕ) → refused k ≡ fills (length v) (word v) (length l) c
-    → (refused k ≡ numbered (callAnswer v l c)) × (l ≡ callList v l c)
-unfolding callAnswer callList
-told v l c k e = (rw (← e), rw (← e))
+-- an answer without a number, which stands for what the call comes to, is its refusal
+pub comes-told : (v l : List ℕ) (c : Call) (r : Answer) → NoNumber r → meaning r ≡ mapAnswer (λ x. some (length x)) (cameTo v l c) → Comes (cameTo v l c) l r l
+comes-told v l c r o h =
+    let f : List ℕ → Option ℕ = λ x. some (length x) in
+    let w = refusal-of r (cameTo v l c) f (λ a. (length a, refl)) o h in
+    comes-refused (cameTo v l c) l r (w .0) (h ∙ ap (mapAnswer f) (sym (w .1))) (sym (w .1))
 
 -- r, places and marks are what the gate answered and left
 module _ (v l : List ℕ) {d : ℕ} (c : Call) (n : needsClosed c ≡ true) (r : Answer) (places marks : List ℕ)
     (g : Gated v d (fillChecks (length v) (word v) (length l)) r places marks) where
-  pub fill-refused : NoNumber r → (meaning r ≡ numbered (callAnswer v l c)) × (l ≡ callList v l c)
-  fill-refused o =
-      let f : List ℕ → Option ℕ = λ x. some (length x) in
-      let h : meaning r ≡ mapAnswer f (fills (length v) (word v) (length l) c) = rw (comes v l c n) (gate-refused v _ r places marks g f _ _ o) in
-      let w = refusal-of r (fills (length v) (word v) (length l) c) f (λ a. (length a, refl)) o h in
-      rw (rw (← (w .1)) at h) (told v l c (w .0) (w .1))
+  abbrev words : List ℕ → Option ℕ
+  words x = some (length x)
+
+  pub fill-refused : NoNumber r → Comes (cameTo v l c) l r l
+  fill-refused o = comes-told v l c r o (rw (came v l c n) (gate-refused v _ r places marks g words _ _ o))
 
   module _ (s : ℕ) (e : r ≡ Number s) where
-    behind : fills (length v) (word v) (length l) c ≡ firstRefusal (ownChecks v c) (done (filledWords v c))
-    behind = comes v l c n ∙ gate-passed v _ r places marks g s e _ _
+    pub fill-behind : cameTo v l c ≡ firstRefusal (ownChecks v c) (done (filledWords v c))
+    fill-behind = came v l c n ∙ gate-passed v _ r places marks g s e _ _
 
-    -- a check of the call's own that holds
-    pub fill-told : (k : ℕ) → refused k ≡ firstRefusal (ownChecks v c) (done (filledWords v c)) → (refused k ≡ numbered (callAnswer v l c)) × (l ≡ callList v l c)
-    fill-told k h = told v l c k (h ∙ sym behind)
-
-    -- none of them holds: the words are put into the list from its start on
-    pub fill-done : (k : ℕ) (m : List ℕ) → done (filledWords v c) ≡ firstRefusal (ownChecks v c) (done (filledWords v c)) → length (filledWords v c) ≤ length l
-        → Emitted l 0 (filledWords v c) k m → (done (some k) ≡ numbered (callAnswer v l c)) × (m ≡ callList v l c)
-    unfolding callAnswer callList
-    fill-done k m h b i =
-        let j = h ∙ sym behind in
-        let z : k ≡ length (filledWords v c) = omega (arith, i .end) in
-        (rw (← j, z), rw (← j) (rw z at (emitted-parts i (omega arith))))
-
-    -- Further checks in two stages: s is what the first of them came to.
+    -- Further checks in two stages: t is what the first of them came to.
     module _ (first last : Checks) (own : ownChecks v c ≡ first ++ last) (x : ℕ) (t : Answer) (h : meaning t ≡ numbered (firstRefusal first (done x))) where
-      staged : fills (length v) (word v) (length l) c ≡ firstRefusal first (firstRefusal last (done (filledWords v c)))
-      staged = behind ∙ rw (own, checks-after first last (done (filledWords v c)))
+      staged : cameTo v l c ≡ firstRefusal first (firstRefusal last (done (filledWords v c)))
+      staged = fill-behind ∙ rw (own, checks-after first last (done (filledWords v c)))
 
-      pub stage-refused : NoNumber t → (meaning t ≡ numbered (callAnswer v l c)) × (l ≡ callList v l c)
-      stage-refused o =
-          let f : List ℕ → Option ℕ = λ y. some (length y) in
-          let q : meaning t ≡ mapAnswer f (fills (length v) (word v) (length l) c) = rw staged (same-refusal t first x h f (firstRefusal last (done (filledWords v c))) o) in
-          let w = refusal-of t (fills (length v) (word v) (length l) c) f (λ a. (length a, refl)) o q in
-          rw (rw (← (w .1)) at q) (told v l c (w .0) (w .1))
+      pub stage-refused : NoNumber t → Comes (cameTo v l c) l t l
+      stage-refused o = comes-told v l c t o (rw staged (same-refusal t first x h words (firstRefusal last (done (filledWords v c))) o))
 
-      pub stage-behind : (i : ℕ) → t ≡ Number i → fills (length v) (word v) (length l) c ≡ firstRefusal last (done (filledWords v c))
+      pub stage-behind : (i : ℕ) → t ≡ Number i → cameTo v l c ≡ firstRefusal last (done (filledWords v c))
       stage-behind i j = staged ∙ none-refuses first x i (rw j at h) (firstRefusal last (done (filledWords v c)))
 
--- y is what the call comes to: it gives the answer and the list
-pub filled-whole : (v l : List ℕ) (c : Call) (y : model.Answer (List ℕ)) → fills (length v) (word v) (length l) c ≡ y
-    → (t : Answer) (m : List ℕ) → meaning t ≡ numbered (mapAnswer length y) → m ≡ filledFrom l y
-    → (meaning t ≡ numbered (callAnswer v l c)) × (m ≡ callList v l c)
-unfolding callAnswer callList
-filled-whole v l c y e t m a b = (rw e a, rw e b)
+-- Behind the gate the list is long enough, and the volume is accepted and its journal closed.
+module _ (v l : List ℕ) {d : ℕ} (r : Answer) (places marks : List ℕ) (g : Gated v d (fillChecks (length v) (word v) (length l)) r places marks)
+    (n : ℕ) (e : r ≡ Number n) where
+  pub fill-long : 4096 ≤ length l
+  unfolding fillChecks
+  fill-long =
+      by-lt (length l) 4096
+      (λ h. let a = rw (e, lt-ltb (length l) 4096 h) at (g .answer) in let q : _≡_ {A = ℕ} 0 1 = cc in absurd (omega arith)) (λ h. h)
+
+  pub fill-closed : Closed v marks
+  unfolding fillChecks closedChecks
+  fill-closed =
+      record {
+        volume = g .tables n e .volume;
+        good = g .tables n e .good;
+        closed = last-passes ((ltb (length l) 4096, 1) ∷ volumeChecks (length v) (word v)) (isOpen (word v)) 4 _ n (rw e at (g .answer));
+        served = g .tables n e .served;
+      }
+
+  pub fill-view : view (word v) ≡ word v
+  fill-view = closed-view (word v) (fill-closed .closed)

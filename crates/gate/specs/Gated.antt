@@ -29,7 +29,8 @@ rootNames v = namesIn v root
 unfoldable pub fillChecks : ℕ → Mem → ℕ → Checks
 fillChecks len m l = (ltb l listWords, shortMemory) ∷ closedChecks len m
 
--- v is an accepted volume whose directory d has n names; the first places are those of these names, and the marks those of its pages in use.
+-- v is an accepted volume whose directory d has n names; the first places are those of these names, and the marks those of its pages in
+-- use.
 pub record Tables (v : List ℕ) (d n : ℕ) (places marks : List ℕ) : Type 0 where
   pub volume : isVolume (length v) (word v) ≡ true
   pub good : accepted (word v) (word v 0) (word v 1) ≡ true

@@ -5,22 +5,18 @@ ghost use mathlib.Core.Bool.{true};
 ghost use lib.ListN.{length, replicate};
 ghost use Rattle.model.specs.Words.{word};
 ghost use Rattle.model.specs.Layout.{isDirectory};
+ghost use Rattle.model.specs.Journal.{view};
 ghost use Rattle.model.specs.Public.{volumeChecks, closedChecks};
 ghost use Rattle.gate.specs.Gated.{fillChecks, Gated};
 use answer::Answer;
 
-// The inode of the directory.
-pub const ROOT: usize = 0;
-
-// The words that a store list to be filled has at least.
-const LIST_WORDS: usize = 4096;
-
 // Judges a volume and fills the tables; marks must be zeros. Answers Number with the directory's count of names, NoVolume or Damaged.
 // Where it answers no number, the tables hold anything.
-// Example: of a volume just formatted judged(v, ROOT, places, marks) is Number(0), of no bytes NoVolume.
+// Example: of a volume just formatted judged(v, layout::ROOT, places, marks) is Number(0), of no bytes NoVolume.
 pub fn judged(v: &[u8], d: usize, places: &mut [u16; 224], marks: &mut [u8; 4096]) -> Answer
-    requires { ⌜ (isDirectory d ≡ true) × (length (now places) ≡ 224) × (now marks ≡ replicate 4096 0) ⌝ }
-    ensures { λ r. ⌜ Gated (now (v .entry)) d (volumeChecks (length (now (v .entry))) (word (now (v .entry)))) r (now (places .exit)) (now (marks .exit)) ⌝ }
+    requires { ⌜ (isDirectory (view (word (now v))) d ≡ true) × (length (now places) ≡ 224) × (now marks ≡ replicate 4096 0) ⌝ }
+    ensures { λ r. ⌜ Gated (now (v .entry)) d (volumeChecks (length (now (v .entry))) (word (now (v .entry)))) r (now (places .exit))
+        (now (marks .exit)) ⌝ }
 {
     if !header::is_volume(v) {
         return Answer::NoVolume;
@@ -36,8 +32,9 @@ pub fn judged(v: &[u8], d: usize, places: &mut [u16; 224], marks: &mut [u8; 4096
 // Damaged or JournalOpen.
 // Example: of a volume just formatted it answers Number(0); where its dequeue word is 1 and its enqueue word 0, JournalOpen or Damaged.
 pub fn closed(v: &[u8], d: usize, places: &mut [u16; 224], marks: &mut [u8; 4096]) -> Answer
-    requires { ⌜ (isDirectory d ≡ true) × (length (now places) ≡ 224) × (now marks ≡ replicate 4096 0) ⌝ }
-    ensures { λ r. ⌜ Gated (now (v .entry)) d (closedChecks (length (now (v .entry))) (word (now (v .entry)))) r (now (places .exit)) (now (marks .exit)) ⌝ }
+    requires { ⌜ (isDirectory (view (word (now v))) d ≡ true) × (length (now places) ≡ 224) × (now marks ≡ replicate 4096 0) ⌝ }
+    ensures { λ r. ⌜ Gated (now (v .entry)) d (closedChecks (length (now (v .entry))) (word (now (v .entry)))) r (now (places .exit))
+        (now (marks .exit)) ⌝ }
 {
     let answer = judged(v, d, places, marks);
     let Answer::Number(count) = answer else {
@@ -51,8 +48,8 @@ pub fn closed(v: &[u8], d: usize, places: &mut [u16; 224], marks: &mut [u8; 4096
 
 // Asks what every call that fills a store list asks first, recover apart: that the list has 4,096 words or more, and then what `closed`
 // asks. Answers Number with the count of names, ShortMemory, NoVolume, Damaged or JournalOpen, and fills the tables as `judged` does.
-// Example: of a volume just formatted filling(v, 4096, ROOT, places, marks) is Number(0) and filling(v, 4095, ROOT, places, marks)
-// ShortMemory.
+// Example: of a volume just formatted filling(v, 4096, layout::ROOT, places, marks) is Number(0) and
+// filling(v, 4095, layout::ROOT, places, marks) ShortMemory.
 pub fn filling(
     v: &[u8],
     words: usize,
@@ -60,10 +57,11 @@ pub fn filling(
     places: &mut [u16; 224],
     marks: &mut [u8; 4096],
 ) -> Answer
-    requires { ⌜ (isDirectory d ≡ true) × (length (now places) ≡ 224) × (now marks ≡ replicate 4096 0) ⌝ }
-    ensures { λ r. ⌜ Gated (now (v .entry)) d (fillChecks (length (now (v .entry))) (word (now (v .entry))) words) r (now (places .exit)) (now (marks .exit)) ⌝ }
+    requires { ⌜ (isDirectory (view (word (now v))) d ≡ true) × (length (now places) ≡ 224) × (now marks ≡ replicate 4096 0) ⌝ }
+    ensures { λ r. ⌜ Gated (now (v .entry)) d (fillChecks (length (now (v .entry))) (word (now (v .entry))) words) r (now (places .exit))
+        (now (marks .exit)) ⌝ }
 {
-    if words < LIST_WORDS {
+    if words < layout::LIST_WORDS {
         return Answer::ShortMemory;
     }
     closed(v, d, places, marks)

@@ -1,12 +1,5 @@
 -- The cases that need more than the tests' values: a slice without a whole header, a product that fits, and the order of the tests.
-use Prim.Native.Nat.{ℕ, _*_, _≤_, _<_}
-use mathlib.Core.Path.{_≡_, refl, sym, _∙_}
-use mathlib.Core.Bool.{Bool, true, false, not, _&&_}
-use mathlib.Core.List.{List}
-use native.Mathlib.Omega.{arith}
-use borrow.Author.Tests.{not-true, not-false}
-use lib.Dec.{eqb}
-use lib.ListN.{length}
+use Rattle.model.proofs.Prelude.{ℕ, _*_, _≤_, _<_, _≡_, refl, sym, _∙_, Bool, true, false, not, _&&_, List, arith, not-true, not-false, eqb, length}
 use mir.Syntax.{w64}
 use mir.Val.{Fits}
 use Rattle.model.specs.Words.{word}

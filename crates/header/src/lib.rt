@@ -9,16 +9,7 @@ ghost use Rattle.model.specs.Words.{word};
 ghost use Rattle.model.specs.Layout.{sizesOk};
 ghost use Rattle.model.specs.Public.{isVolume};
 
-// The word that holds the page count.
-pub const PAGES_WORD: usize = 0;
-
-// The word that holds the inode count.
-pub const INODES_WORD: usize = 1;
-
-// The word that is 1 in every volume.
-pub const KIND_WORD: usize = 2;
-
-// How many bytes these three words are.
+// How many bytes words 0, 1 and 2 are.
 const HEADER_BYTES: usize = 24;
 
 // Answers whether a volume may have so many pages and inodes: 16 to 4,096 pages, a multiple of 8 from 8 to 256 inodes,
@@ -65,10 +56,10 @@ pub fn is_volume(v: &[u8]) -> bool
     if v.len() < HEADER_BYTES {
         return false;
     }
-    let pages = words::word_at(v, PAGES_WORD);
-    let inodes = words::word_at(v, INODES_WORD);
+    let pages = words::word_at(v, layout::PAGES_WORD);
+    let inodes = words::word_at(v, layout::INODES_WORD);
     if !sizes_fit(v.len(), pages, inodes) {
         return false;
     }
-    words::word_at(v, KIND_WORD) == 1
+    words::word_at(v, layout::KIND_WORD) == 1
 }

@@ -18,8 +18,8 @@ ghost use mathlib.Core.Path.{_≡_};
 ghost use Rattle.model.specs.Public.{formatAnswer, formatVolume, carryAnswer, carryVolume, findAnswer, sizeAnswer};
 ghost use Rattle.model.specs.Public.{readAnswer, readBuffer, kthNameAnswer, kthNameBuffer, freeAnswer};
 ghost use Rattle.model.specs.FileMap.{create, link, unlink, rename, write, setSize, clean, recover};
-ghost use Rattle.model.specs.Public.{callAnswer, callList};
 ghost use Rattle.answer.specs.Meaning.{plain, numbered, codeOf};
+ghost use Rattle.answer.specs.Comes.{Returns};
 
 // Makes the bytes a new volume with so many pages and inodes, an empty directory and no files. Answers 0, or minus the
 // number of the refusal, 2 no volume, where a volume may not have these sizes or the bytes are not that many pages; they
@@ -105,8 +105,7 @@ pub extern "C" fn volume_free_count(volume: &[u8]) -> i64
 // Example: of 16 pages just formatted with 8 inodes the name "A1" answers 46.
 #[no_mangle]
 pub extern "C" fn volume_create(volume: &[u8], name: &[u8], list: &mut [u64]) -> i64
-    ensures { λ r. ⌜ (r ≡ codeOf (numbered (callAnswer (now (volume .entry)) (now (list .entry)) (create (now (name .entry))))))
-        × (now (list .exit) ≡ callList (now (volume .entry)) (now (list .entry)) (create (now (name .entry)))) ⌝ }
+    ensures { λ r. ⌜ Returns (now (volume .entry)) (now (list .entry)) (create (now (name .entry))) r (now (list .exit)) ⌝ }
 {
     answer::code(volume::create(volume, name, list))
 }
@@ -116,8 +115,7 @@ pub extern "C" fn volume_create(volume: &[u8], name: &[u8], list: &mut [u64]) ->
 // Example: where "A1" is the only name, "A1" and "A2" answer 22, and "A1" and "A1" -7.
 #[no_mangle]
 pub extern "C" fn volume_link(volume: &[u8], old: &[u8], new: &[u8], list: &mut [u64]) -> i64
-    ensures { λ r. ⌜ (r ≡ codeOf (numbered (callAnswer (now (volume .entry)) (now (list .entry)) (link (now (old .entry)) (now (new .entry))))))
-        × (now (list .exit) ≡ callList (now (volume .entry)) (now (list .entry)) (link (now (old .entry)) (now (new .entry)))) ⌝ }
+    ensures { λ r. ⌜ Returns (now (volume .entry)) (now (list .entry)) (link (now (old .entry)) (now (new .entry))) r (now (list .exit)) ⌝ }
 {
     answer::code(volume::link(volume, old, new, list))
 }
@@ -127,25 +125,24 @@ pub extern "C" fn volume_link(volume: &[u8], old: &[u8], new: &[u8], list: &mut 
 // Example: where "A1" is the only name of inode 1, it answers 40.
 #[no_mangle]
 pub extern "C" fn volume_unlink(volume: &[u8], name: &[u8], list: &mut [u64]) -> i64
-    ensures { λ r. ⌜ (r ≡ codeOf (numbered (callAnswer (now (volume .entry)) (now (list .entry)) (unlink (now (name .entry))))))
-        × (now (list .exit) ≡ callList (now (volume .entry)) (now (list .entry)) (unlink (now (name .entry)))) ⌝ }
+    ensures { λ r. ⌜ Returns (now (volume .entry)) (now (list .entry)) (unlink (now (name .entry))) r (now (list .exit)) ⌝ }
 {
     answer::code(volume::unlink(volume, name, list))
 }
 
-// Fills a store list that gives a file another name in place of one. Answers the count of words filled, 0 where both names lead to one file,
-// or minus the number of the refusal: 1 to 5, 6 not there, 12 no space.
+// Fills a store list that gives a file another name in place of one. Answers the count of words filled, 0 where both names lead to one
+// file, or minus the number of the refusal: 1 to 5, 6 not there, 12 no space.
 // Example: where "A1" is the only name, "A1" and "A1" answer 0.
 #[no_mangle]
 pub extern "C" fn volume_rename(volume: &[u8], old: &[u8], new: &[u8], list: &mut [u64]) -> i64
-    ensures { λ r. ⌜ (r ≡ codeOf (numbered (callAnswer (now (volume .entry)) (now (list .entry)) (rename (now (old .entry)) (now (new .entry))))))
-        × (now (list .exit) ≡ callList (now (volume .entry)) (now (list .entry)) (rename (now (old .entry)) (now (new .entry)))) ⌝ }
+    ensures { λ r. ⌜ Returns (now (volume .entry)) (now (list .entry)) (rename (now (old .entry)) (now (new .entry))) r
+        (now (list .exit)) ⌝ }
 {
     answer::code(volume::rename(volume, old, new, list))
 }
 
-// Fills a store list that writes bytes into a file from an offset on. Answers the count of words filled, 0 for no bytes, or minus the number
-// of the refusal: 1 to 4, 6 not there, 8 over 4,096 bytes, 9 past the end, 12 no space.
+// Fills a store list that writes bytes into a file from an offset on. Answers the count of words filled, 0 for no bytes, or minus the
+// number of the refusal: 1 to 4, 6 not there, 8 over 4,096 bytes, 9 past the end, 12 no space.
 // Example: of an empty file of 16 pages, 4 bytes at offset 510 answer 280.
 #[no_mangle]
 pub extern "C" fn volume_write(
@@ -155,30 +152,27 @@ pub extern "C" fn volume_write(
     bytes: &[u8],
     list: &mut [u64],
 ) -> i64
-    ensures { λ r. ⌜ (r ≡ codeOf (numbered (callAnswer (now (volume .entry)) (now (list .entry)) (write inode offset (now (bytes .entry))))))
-        × (now (list .exit) ≡ callList (now (volume .entry)) (now (list .entry)) (write inode offset (now (bytes .entry)))) ⌝ }
+    ensures { λ r. ⌜ Returns (now (volume .entry)) (now (list .entry)) (write inode offset (now (bytes .entry))) r (now (list .exit)) ⌝ }
 {
     answer::code(volume::write(volume, inode, offset, bytes, list))
 }
 
-// Fills a store list that changes the size of a file. Answers the count of words filled, 0 where the size is the same, or minus the number of
-// the refusal: 1 to 4, 6 not there, 9 past the end, 12 no space.
+// Fills a store list that changes the size of a file. Answers the count of words filled, 0 where the size is the same, or minus the number
+// of the refusal: 1 to 4, 6 not there, 9 past the end, 12 no space.
 // Example: of a file of 514 bytes, size 514 answers 0.
 #[no_mangle]
 pub extern "C" fn volume_set_size(volume: &[u8], inode: u64, size: u64, list: &mut [u64]) -> i64
-    ensures { λ r. ⌜ (r ≡ codeOf (numbered (callAnswer (now (volume .entry)) (now (list .entry)) (setSize inode size))))
-        × (now (list .exit) ≡ callList (now (volume .entry)) (now (list .entry)) (setSize inode size)) ⌝ }
+    ensures { λ r. ⌜ Returns (now (volume .entry)) (now (list .entry)) (setSize inode size) r (now (list .exit)) ⌝ }
 {
     answer::code(volume::set_size(volume, inode, size, list))
 }
 
-// Fills a store list that writes the log of an inode anew, without entries that no longer count. Answers the count of words filled, 0 for an
-// empty log, or minus the number of the refusal: 1 to 4, 6 not there, 12 no space.
+// Fills a store list that writes the log of an inode anew, without entries that no longer count. Answers the count of words filled, 0 for
+// an empty log, or minus the number of the refusal: 1 to 4, 6 not there, 12 no space.
 // Example: of a volume just formatted inode 0 answers 0.
 #[no_mangle]
 pub extern "C" fn volume_clean(volume: &[u8], inode: u64, list: &mut [u64]) -> i64
-    ensures { λ r. ⌜ (r ≡ codeOf (numbered (callAnswer (now (volume .entry)) (now (list .entry)) (clean inode))))
-        × (now (list .exit) ≡ callList (now (volume .entry)) (now (list .entry)) (clean inode)) ⌝ }
+    ensures { λ r. ⌜ Returns (now (volume .entry)) (now (list .entry)) (clean inode) r (now (list .exit)) ⌝ }
 {
     answer::code(volume::clean(volume, inode, list))
 }
@@ -188,8 +182,7 @@ pub extern "C" fn volume_clean(volume: &[u8], inode: u64, list: &mut [u64]) -> i
 // Example: of a volume just formatted it answers 0.
 #[no_mangle]
 pub extern "C" fn volume_recover(volume: &[u8], list: &mut [u64]) -> i64
-    ensures { λ r. ⌜ (r ≡ codeOf (numbered (callAnswer (now (volume .entry)) (now (list .entry)) (recover))))
-        × (now (list .exit) ≡ callList (now (volume .entry)) (now (list .entry)) (recover)) ⌝ }
+    ensures { λ r. ⌜ Returns (now (volume .entry)) (now (list .entry)) recover r (now (list .exit)) ⌝ }
 {
     answer::code(volume::recover(volume, list))
 }

@@ -1,14 +1,6 @@
 -- The index is a map from names to places: noting a name changes what the index has for that name and for no other, since an empty slot
 -- lies on no way that a look-up of a name in it goes, and a slot that is taken keeps its name.
-use Prim.Native.Nat.{ℕ, zero, suc, _+_, _*_, _-_, _≤_, _<_}
-use mathlib.Core.Path.{_≡_, refl, sym, _∙_, ap}
-use mathlib.Core.Bool.{Bool, true, false, not, cond, _&&_, _||_}
-use mathlib.Core.List.{List, [], _∷_}
-use native.Mathlib.Omega.{arith}
-use lib.Dec.{eqb}
-use lib.ListN.{length, getD, set, replicate, length-set, length-replicate, getD-replicate, List·getD-eq-default}
-use lib.Seq.{getD-set-same, getD-set-other}
-use borrow.Author.Tests.{eq-eqb, ne-eqb, eqb-true, not-false}
+use Rattle.model.proofs.Prelude.{ℕ, zero, suc, _+_, _*_, _-_, _≤_, _<_, _≡_, refl, sym, _∙_, ap, Bool, true, false, not, cond, _&&_, _||_, List, [], _∷_, arith, eqb, length, getD, set, replicate, length-set, length-replicate, getD-replicate, List·getD-eq-default, getD-set-same, getD-set-other, eq-eqb, ne-eqb, eqb-true, not-false}
 use Rattle.model.specs.Lists.{bit, filter}
 use Rattle.model.specs.Words.{Mem}
 use Rattle.model.proofs.Tests.{by-bool, by-eq, by-lt, clash, ands, or-false, bit-le}

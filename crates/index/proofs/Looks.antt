@@ -1,16 +1,7 @@
 -- The cases of the functions' answers: products that fit, names word by word, a look-up slot by slot, and what noting a name leaves.
-use Prim.Native.Nat.{ℕ, zero, suc, _+_, _*_, _-_, _/_, _%_, _^_, _≤_, _<_}
-use mathlib.Core.Path.{_≡_, refl, sym, _∙_}
-use mathlib.Core.Bool.{Bool, true, false, not, cond}
-use mathlib.Core.List.{List, [], _∷_}
-use native.Mathlib.Omega.{arith}
-use native.Mathlib.Numerals.{sub-one}
-use native.Mathlib.Nat.{mul-le-mul-left, mul-le-mul-right, mul-lt-mul-of-pos-right, div-lt-iff-lt-mul}
+use Rattle.model.proofs.Prelude.{ℕ, zero, suc, _+_, _*_, _-_, _/_, _%_, _^_, _≤_, _<_, _≡_, refl, sym, _∙_, Bool, true, false, not, List, [], _∷_, arith, sub-one, mul-le-mul-left, mul-le-mul-right, mul-lt-mul-of-pos-right, div-lt-iff-lt-mul, eqb, length, getD, set, length-set, eq-eqb, ne-eqb, le-leb, leb-true, not-true, not-false}
 use mir.Val.{Fits}
 use mir.Syntax.{w64}
-use lib.Dec.{eqb}
-use lib.ListN.{length, getD, set, length-set}
-use borrow.Author.Tests.{eq-eqb, ne-eqb, le-leb, leb-true, not-true, not-false}
 use Rattle.model.specs.Lists.{bit, all}
 use Rattle.model.specs.Words.{Mem}
 use Rattle.model.proofs.Lists.{all-cons, all-has, has-getD}

@@ -1,15 +1,6 @@
 -- The cases of the functions that judge one inode: what they read from the raw memory is what the view has, and a chain of
 -- judgements and marks is one judgement.
-use Prim.Native.Nat.{ℕ, zero, suc, _+_, _*_, _/_, _≤_, _<_}
-use mathlib.Core.Path.{_≡_, refl, sym, _∙_, ap, subst}
-use mathlib.Core.Logic.{⊎-elim}
-use mathlib.Core.Bool.{Bool, true, false, not, _&&_}
-use mathlib.Core.List.{List, [], append-nil}
-use mathlib.Core.Option.{none}
-use native.Mathlib.Omega.{arith}
-use lib.ListN.{getD}
-use lib.Dec.{leb}
-use borrow.Author.Tests.{lt-leb, eq-eqb, ne-eqb, not-true, not-false}
+use Rattle.model.proofs.Prelude.{ℕ, zero, suc, _+_, _*_, _/_, _≤_, _<_, _≡_, refl, sym, _∙_, ap, subst, ⊎-elim, Bool, true, false, not, _&&_, List, [], append-nil, none, arith, getD, leb, lt-leb, eq-eqb, ne-eqb, not-true, not-false}
 use Rattle.model.specs.Lists.{all, isSome, orElse}
 use Rattle.model.specs.Words.{Mem}
 use Rattle.model.specs.Layout.{validWord, headWord, tailWord, inPages, root, filePages}
@@ -43,27 +34,27 @@ marked-before ok a ps b e = refused ok a ps b (by-bool ok (λ h. rw (h, e)) (λ 
 
 -- The log pages of inode k: t is the tail and h the head that the code read.
 
-module _ (m : Mem) (L P N k t : ℕ) (ready : Ready m L P N) (i : t ≡ view m (tailWord k)) where
+module _ (m : Mem) (L P N k a t : ℕ) (ready : Ready m L P N) (x : a ≡ tailWord k) (i : t ≡ view m a) where
   pub no-pages : (u : List ℕ) → t ≡ 0 → Marked u (pagesOfInode (view m) P N k) true u
   unfolding pagesOfInode logPages pagesOf fresh marked
-  no-pages u z = let e : view m (tailWord k) ≡ 0 = sym i ∙ z in record { answer = rw e; list = λ _. rw e }
+  no-pages u z = let e : view m (tailWord k) ≡ 0 = rw (← x, ← i) z in record { answer = rw e; list = λ _. rw e }
 
-  module _ (h : ℕ) (g : h ≡ view m (headWord k)) (z : t ≡ 0 → ⊥) (s : isSome (logPages (view m) P N k) ≡ true) where
+  module _ (b h : ℕ) (y : b ≡ headWord k) (g : h ≡ view m b) (z : t ≡ 0 → ⊥) (s : isSome (logPages (view m) P N k) ≡ true) where
     raw-pages : pagesOf m P N h t ≡ logPages (view m) P N k
-    raw-pages = rw (g, i) (inode-pages m P N (ready .eight) (ready .journal) k)
+    raw-pages = rw (g, i, y, x) (inode-pages m P N (ready .eight) (ready .journal) k)
 
     raw-walk : walk m P N P h (t / 512) ≡ logPages (view m) P N k
     unfolding pagesOf
     raw-walk =
-        by-bool (tailOk t) (λ y. rw (ne-eqb t 0 z, y) at raw-pages)
-        (λ y. let n : none ≡ logPages (view m) P N k = rw (ne-eqb t 0 z, y) at raw-pages in no (rw (← n) at s))
+        by-bool (tailOk t) (λ o. rw (ne-eqb t 0 z, o) at raw-pages)
+        (λ o. let n : none ≡ logPages (view m) P N k = rw (ne-eqb t 0 z, o) at raw-pages in no (rw (← n) at s))
 
     pub walk-ends : isSome (walk m P N P h (t / 512)) ≡ true
     walk-ends = rw raw-walk s
 
     pub walk-pages : (u v : List ℕ) (r : Bool) → Marked u (orElse (walk m P N P h (t / 512)) []) r v → Marked u (pagesOfInode (view m) P N k) r v
     unfolding pagesOfInode
-    walk-pages u v r x = rw raw-walk at x
+    walk-pages u v r o = rw raw-walk at o
 
 pub log-some : (u : Mem) (P N k : ℕ) → logOk u P N k ≡ true → isSome (logPages u P N k) ≡ true
 unfolding logOk
@@ -170,17 +161,17 @@ module _ (ok : Bool) (g : File) (x : Folded) (t : List ℕ) (f : Folds ok g x t)
 
 -- Inode k, not the directory's: v is its valid word.
 
-module _ (m : Mem) (P N k v : ℕ) (kp : 0 < k) (i : v ≡ view m (validWord k)) where
+module _ (m : Mem) (P N k w v : ℕ) (kp : 0 < k) (x : w ≡ validWord k) (i : v ≡ view m w) where
   pub inode-free : (a : List ℕ) → v ≡ 0 → InodeJudged (view m) P N k a true a
   unfolding inodeOk validOk usedBy fresh marked
   inode-free a z =
-      let e : view m (validWord k) ≡ 0 = sym i ∙ z in
+      let e : view m (validWord k) ≡ 0 = rw (← x, ← i) z in
       record { answer = rw (e, ne-eqb k 0 (omega arith)); list = λ _. rw e }
 
   pub inode-file : (a b : List ℕ) (r : Bool) → v ≡ 1 → FileJudged (view m) P N k a r b → InodeJudged (view m) P N k a r b
   unfolding inodeOk validOk usedBy
   inode-file a b r z j =
-      let e : view m (validWord k) ≡ 1 = sym i ∙ z in
+      let e : view m (validWord k) ≡ 1 = rw (← x, ← i) z in
       record {
         answer = rw (inodeOk, validOk, usedBy, e, ne-eqb k 0 (omega arith)) (j .answer);
         list = λ y. rw (usedBy, e, ne-eqb k 0 (omega arith)) (j .list y);
@@ -189,19 +180,19 @@ module _ (m : Mem) (P N k v : ℕ) (kp : 0 < k) (i : v ≡ view m (validWord k))
   pub inode-bad : (a ps : List ℕ) → (v ≡ 0 → ⊥) → (v ≡ 1 → ⊥) → Judged (inodeOk (view m) P N k) a ps false a
   unfolding inodeOk validOk
   inode-bad a ps y z =
-      let g : leb (view m (validWord k)) 1 ≡ false = rw (← i) (lt-leb v 1 (omega arith)) in
+      let g : leb (view m (validWord k)) 1 ≡ false = rw (← x, ← i) (lt-leb v 1 (omega arith)) in
       bad _ a ps a (rw (inodeOk, validOk, ne-eqb k 0 (omega arith), g))
 
 -- The directory's inode: v is its valid word.
 
-module _ (m : Mem) (P N v : ℕ) (i : v ≡ view m 64) where
+module _ (m : Mem) (P N w v : ℕ) (x : w ≡ validWord root) (i : v ≡ view m w) where
   pub root-bad : (a ps : List ℕ) → (v ≡ 1 → ⊥) → Judged (inodeOk (view m) P N root) a ps false a
   unfolding inodeOk validOk
-  root-bad a ps z = bad _ a ps a (rw (inodeOk, validOk, ne-eqb (view m 64) 1 (λ y. z (i ∙ y))))
+  root-bad a ps z = bad _ a ps a (rw (inodeOk, validOk, ne-eqb (view m (validWord root)) 1 (λ y. z (i ∙ rw x y))))
 
   pub root-is : (a b : List ℕ) (r : Bool) → v ≡ 1 → logOk (view m) P N root ≡ true → Marked a (pagesOfInode (view m) P N root) r b
       → InodeJudged (view m) P N root a r b
   unfolding inodeOk validOk usedBy
   root-is a b r z g j =
-      let e : view m 64 ≡ 1 = sym i ∙ z in
+      let e : view m (validWord root) ≡ 1 = rw (← x, ← i) z in
       record { answer = rw (e, g, append-nil) (j .answer); list = λ y. rw (e, append-nil) (j .list y) }

@@ -1,11 +1,6 @@
 -- The cases of the functions that judge the inodes one after the other: what holds of the inodes below k and of inode k
 -- holds of those below k + 1, and what fails of one inode fails of all.
-use Prim.Native.Nat.{ℕ, zero, suc, _+_, _-_, _≤_, _<_}
-use mathlib.Core.Path.{_≡_, refl, sym, _∙_}
-use mathlib.Core.Bool.{Bool, true, false, not, _&&_}
-use mathlib.Core.List.{List, _++_}
-use native.Mathlib.Omega.{arith}
-use borrow.Author.Tests.{not-true, not-false}
+use Rattle.model.proofs.Prelude.{ℕ, zero, suc, _+_, _-_, _≤_, _<_, _≡_, refl, sym, _∙_, Bool, true, false, not, _&&_, List, _++_, arith, not-true, not-false}
 use Rattle.model.specs.Lists.{allBelow}
 use Rattle.model.specs.Words.{Mem}
 use Rattle.model.specs.Layout.{root}

@@ -1,10 +1,5 @@
 -- No page serves twice: pages of good inodes are log and data pages, so that marking each once is the model's test of uses.
-use Prim.Native.Nat.{ℕ, zero, suc, _≤_, _<_}
-use mathlib.Core.Path.{_≡_, refl, sym, _∙_}
-use mathlib.Core.Bool.{Bool, true, _&&_}
-use mathlib.Core.List.{List}
-use native.Mathlib.Omega.{arith}
-use borrow.Author.Tests.{eq-eqb, ne-eqb}
+use Rattle.model.proofs.Prelude.{ℕ, zero, suc, _≤_, _<_, _≡_, refl, sym, _∙_, Bool, true, _&&_, List, arith, eq-eqb, ne-eqb}
 use Rattle.model.specs.Lists.{all, allBelow}
 use Rattle.model.specs.Words.{Mem}
 use Rattle.model.specs.Layout.{inPages}

@@ -1,10 +1,5 @@
 -- The cases of the count of pages without a mark.
-use Prim.Native.Nat.{ℕ, suc, _+_, _/_, _≤_, _<_}
-use mathlib.Core.Path.{_≡_, refl}
-use mathlib.Core.List.{List}
-use native.Mathlib.Omega.{arith}
-use lib.ListN.{getD}
-use borrow.Author.Tests.{lt-ltb, le-ltb, eq-eqb, ne-eqb}
+use Rattle.model.proofs.Prelude.{ℕ, suc, _+_, _/_, _≤_, _<_, _≡_, refl, List, arith, getD, lt-ltb, le-ltb, eq-eqb, ne-eqb}
 use Rattle.model.specs.Lists.{bit, sumBelow}
 use Rattle.model.specs.Layout.{inPages}
 use Rattle.marks.specs.Marks.{unmarked}

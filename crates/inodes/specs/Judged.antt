@@ -1,15 +1,17 @@
 -- What the functions that judge and mark answer, and the marks that they leave. u is the view of a volume.
 use Prim.Native.Nat.{ℕ, _<_}
 use mathlib.Core.Path.{_≡_}
-use mathlib.Core.Bool.{Bool, true, _&&_}
+use mathlib.Core.Bool.{Bool, true, false, _&&_}
 use mathlib.Core.List.{List, _++_}
-use lib.ListN.{replicate}
+use lib.ListN.{length, replicate}
 use Rattle.model.specs.Lists.{bit, allBelow, sumBelow}
-use Rattle.model.specs.Words.{Mem}
+use Rattle.model.specs.Words.{Mem, word}
 use Rattle.model.specs.Layout.{root, filePages}
+use Rattle.model.specs.Journal.{isOpen, view}
 use Rattle.model.specs.Log.{pages}
 use Rattle.model.specs.State.{fileOf}
-use Rattle.model.specs.Accept.{logOk, endOk, inodeOk, servesOnce}
+use Rattle.model.specs.Accept.{logOk, endOk, inodeOk, servesOnce, accepted}
+use Rattle.model.specs.Public.{isVolume}
 use Rattle.files.specs.State.{fileFrom}
 use Rattle.marks.specs.Marks.{fresh, marked, unmarked, mappedBy, usedBy, usedBelow}
 
@@ -66,3 +68,10 @@ pub record Served (u : Mem) (P N : ℕ) (r : Bool) (b : List ℕ) : Type 0 where
 -- how many log and data pages are not marked in b
 unfoldable pub unmarkedCount : List ℕ → ℕ → ℕ → ℕ
 unmarkedCount b P N = sumBelow P (λ p. bit (unmarked b P N p))
+
+-- v is an accepted volume whose journal is closed, and b are the marks of its pages in use
+pub record Closed (v b : List ℕ) : Type 0 where
+  pub volume : isVolume (length v) (word v) ≡ true
+  pub good : accepted (word v) (word v 0) (word v 1) ≡ true
+  pub closed : isOpen (word v) ≡ false
+  pub served : Served (view (word v)) (word v 0) (word v 1) true b

@@ -11,20 +11,22 @@ ghost use Rattle.model.specs.Journal.{view};
 ghost use Rattle.model.specs.Log.{logPages, pages as pagesOfInode};
 ghost use Rattle.log.specs.Ready.{Ready};
 ghost use Rattle.marks.specs.Marks.{Marked, unmarked};
-ghost use Rattle.inodes.specs.Judged.{FileRead, DirectoryRead, EndJudged, FileJudged, InodeJudged, noMarks, Below, FilesJudged, Served, unmarkedCount};
+ghost use Rattle.inodes.specs.Judged.{FileRead, DirectoryRead, EndJudged, FileJudged, InodeJudged, noMarks, Below, FilesJudged};
+ghost use Rattle.inodes.specs.Judged.{Served, unmarkedCount};
 
 // Marks the log pages of inode k, and answers whether none of them was marked before. Its log is known to have an end.
 // Example: where inode 3 has head 9 and tail 4672, mark_inode(v, 3, 16, 8, marks) marks page 9.
 fn mark_inode(v: &[u8], k: usize, pages: usize, inodes: usize, marks: &mut [u8; 4096]) -> bool
-    requires { ⌜ Ready (word (now v)) (length (now v)) pages inodes × (k < inodes) × (isSome (logPages (view (word (now v))) pages inodes k) ≡ true) ⌝ }
+    requires { ⌜ Ready (word (now v)) (length (now v)) pages inodes × (k < inodes)
+        × (isSome (logPages (view (word (now v))) pages inodes k) ≡ true) ⌝ }
     ensures { λ r. ⌜ Marked (now (marks .entry)) (pagesOfInode (view (word (now (v .entry)))) pages inodes k) r (now (marks .exit)) ⌝ }
 {
-    let tail = journal::viewed(v, 66 + 8 * k) as usize;
+    let tail = journal::viewed(v, layout::tail_word(k)) as usize;
     if tail == 0 {
         return true;
     }
-    let head = journal::viewed(v, 65 + 8 * k) as usize;
-    marks::mark_log(v, head, tail / 512, pages, inodes, marks)
+    let head = journal::viewed(v, layout::head_word(k)) as usize;
+    marks::mark_log(v, head, tail / layout::PAGE, pages, inodes, marks)
 }
 
 // Judges the end of file k, whose log is good and gives this size and table, and marks its pages. Answers whether the
@@ -39,7 +41,8 @@ fn judge_end(
     inodes: usize,
     marks: &mut [u8; 4096],
 ) -> bool
-    requires { ⌜ Ready (word (now v)) (length (now v)) pages inodes × (0 < k) × (k < inodes) × FileRead (view (word (now v))) pages inodes k size (now table) ⌝ }
+    requires { ⌜ Ready (word (now v)) (length (now v)) pages inodes × (0 < k) × (k < inodes)
+        × FileRead (view (word (now v))) pages inodes k size (now table) ⌝ }
     ensures { λ r. ⌜ EndJudged (view (word (now (v .entry)))) pages inodes k (now (marks .entry)) r (now (marks .exit)) ⌝ }
 {
     if !files::end_ok(v, table, size) {
@@ -73,7 +76,7 @@ fn judge_inode(v: &[u8], k: usize, pages: usize, inodes: usize, marks: &mut [u8;
     requires { ⌜ Ready (word (now v)) (length (now v)) pages inodes × (0 < k) × (k < inodes) ⌝ }
     ensures { λ r. ⌜ InodeJudged (view (word (now (v .entry)))) pages inodes k (now (marks .entry)) r (now (marks .exit)) ⌝ }
 {
-    let valid = journal::viewed(v, 64 + 8 * k);
+    let valid = journal::viewed(v, layout::valid_word(k));
     if valid == 0 {
         return true;
     }
@@ -87,7 +90,8 @@ fn judge_inode(v: &[u8], k: usize, pages: usize, inodes: usize, marks: &mut [u8;
 // and no page was marked before.
 // Example: where inodes 1 and 2 are valid and page 9 is a page of both logs, the answer is false.
 fn judge_files(v: &[u8], pages: usize, inodes: usize, marks: &mut [u8; 4096]) -> bool
-    requires { ⌜ Ready (word (now v)) (length (now v)) pages inodes × (0 < inodes) × Below (view (word (now v))) pages inodes 1 (now marks) ⌝ }
+    requires { ⌜ Ready (word (now v)) (length (now v)) pages inodes × (0 < inodes)
+        × Below (view (word (now v))) pages inodes 1 (now marks) ⌝ }
     ensures { λ r. ⌜ FilesJudged (view (word (now (v .entry)))) pages inodes r (now (marks .exit)) ⌝ }
 {
     let mut k: usize = 1;
@@ -107,18 +111,19 @@ fn judge_root(v: &[u8], pages: usize, inodes: usize, marks: &mut [u8; 4096]) -> 
     requires { ⌜ Ready (word (now v)) (length (now v)) pages inodes × DirectoryRead (view (word (now v))) pages inodes ⌝ }
     ensures { λ r. ⌜ InodeJudged (view (word (now (v .entry)))) pages inodes root (now (marks .entry)) r (now (marks .exit)) ⌝ }
 {
-    let valid = journal::viewed(v, 64);
+    let valid = journal::viewed(v, layout::valid_word(layout::ROOT));
     if valid != 1 {
         return false;
     }
-    mark_inode(v, 0, pages, inodes, marks)
+    mark_inode(v, layout::ROOT, pages, inodes, marks)
 }
 
 // Judges every inode and every page of a volume whose directory's log is good. Answers whether every inode is good and no
 // page serves twice; where it answers yes it leaves the marks of all pages that serve.
 // Example: of a volume as format leaves it the answer is true, and no page is marked.
 pub fn judge_pages(v: &[u8], pages: usize, inodes: usize, marks: &mut [u8; 4096]) -> bool
-    requires { ⌜ Ready (word (now v)) (length (now v)) pages inodes × DirectoryRead (view (word (now v))) pages inodes × (now marks ≡ noMarks) ⌝ }
+    requires { ⌜ Ready (word (now v)) (length (now v)) pages inodes × DirectoryRead (view (word (now v))) pages inodes
+        × (now marks ≡ noMarks) ⌝ }
     ensures { λ r. ⌜ Served (view (word (now (v .entry)))) pages inodes r (now (marks .exit)) ⌝ }
 {
     if !judge_root(v, pages, inodes, marks) {

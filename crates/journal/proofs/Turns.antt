@@ -1,11 +1,5 @@
 -- The cases of the loops over positions: at one position the list of the run is its first target and the run of the next.
-use Prim.Native.Nat.{ℕ, zero, suc, _-_, _≤_, _<_}
-use mathlib.Core.Path.{_≡_, refl, sym, _∙_}
-use mathlib.Core.Bool.{Bool, true, false, not}
-use mathlib.Core.List.{[], _∷_}
-use native.Mathlib.Omega.{arith}
-use native.Mathlib.Numerals.{sub-one}
-use borrow.Author.Tests.{eq-eqb, ne-eqb, not-true, not-false}
+use Rattle.model.proofs.Prelude.{ℕ, zero, suc, _-_, _≤_, _<_, _≡_, refl, sym, _∙_, Bool, true, false, not, [], _∷_, arith, sub-one, eq-eqb, ne-eqb, not-true, not-false}
 use Rattle.model.specs.Lists.{all, has, distinct}
 use Rattle.model.specs.Words.{Mem}
 use Rattle.model.specs.Journal.{dequeueWord, targetWord, oldWord, nextPosition, positions, openCount, openPositions, openTargets, putBack, view, targetOk}

@@ -5,14 +5,9 @@ ghost use Prim.Native.Nat.{_+_, _*_, _≤_, _<_};
 ghost use lib.ListN.{length};
 ghost use Rattle.model.specs.Lists.{all, has, distinct};
 ghost use Rattle.model.specs.Words.{word};
-ghost use Rattle.model.specs.Journal.{dequeueWord, enqueueWord, targetWord, oldWord, nextPosition, distance, openCount, openTargets, isOpen, view, targetOk, journalOk};
+ghost use Rattle.model.specs.Journal.{dequeueWord, enqueueWord, targetWord, oldWord, nextPosition, distance, openCount, openTargets};
+ghost use Rattle.model.specs.Journal.{isOpen, view, targetOk, journalOk};
 ghost use Rattle.journal.specs.Targets.{targets};
-
-// The word that holds the dequeue position.
-const DEQUEUE_WORD: usize = 8;
-
-// The word that holds the enqueue position.
-const ENQUEUE_WORD: usize = 9;
 
 // A place in the journal. "A position is below 16 and the one after 15 is 0."
 pub struct Position {
@@ -56,7 +51,7 @@ impl Position {
 // Reads the target of a position, the index of the word whose old value it keeps, and answers it.
 // "Position i holds a target word's index in word 16+2i and its old value in word 17+2i."
 // Example: where word 22 is 66, target_at(v, Position::new(3)) is 66.
-fn target_at(v: &[u8], p: Position) -> u64
+pub fn target_at(v: &[u8], p: Position) -> u64
     requires { ⌜ (p .at < 16) × (512 ≤ length (now v)) ⌝ }
     ensures { λ r. ⌜ r ≡ word (now (v .entry)) (targetWord (p .at)) ⌝ }
 {
@@ -66,7 +61,7 @@ fn target_at(v: &[u8], p: Position) -> u64
 
 // Reads the old value that a position keeps, and answers it.
 // Example: where word 23 is 1088, old_at(v, Position::new(3)) is 1088.
-fn old_at(v: &[u8], p: Position) -> u64
+pub fn old_at(v: &[u8], p: Position) -> u64
     requires { ⌜ (p .at < 16) × (512 ≤ length (now v)) ⌝ }
     ensures { λ r. ⌜ r ≡ word (now (v .entry)) (oldWord (p .at)) ⌝ }
 {
@@ -80,8 +75,8 @@ pub fn open_count(v: &[u8]) -> u64
     requires { ⌜ (word (now v) dequeueWord < 16) × (word (now v) enqueueWord < 16) × (512 ≤ length (now v)) ⌝ }
     ensures { λ r. ⌜ (r ≡ openCount (word (now (v .entry)))) × (r < 16) ⌝ }
 {
-    let from = Position::new(words::word_at(v, DEQUEUE_WORD));
-    let to = Position::new(words::word_at(v, ENQUEUE_WORD));
+    let from = Position::new(words::word_at(v, layout::DEQUEUE_WORD));
+    let to = Position::new(words::word_at(v, layout::ENQUEUE_WORD));
     from.distance(to)
 }
 
@@ -98,10 +93,11 @@ pub fn is_open(v: &[u8]) -> bool
 // word past the inode table reads as it stands (proofs/Views.antt, `view-raw`).
 // Example: where the one open entry has target 66 and old value 0, viewed(v, 66) is 0 and viewed(v, 65) is word 65.
 pub fn viewed(v: &[u8], w: usize) -> u64
-    requires { ⌜ (word (now v) dequeueWord < 16) × (word (now v) enqueueWord < 16) × (512 ≤ length (now v)) × (8 * w + 8 ≤ length (now v)) ⌝ }
+    requires { ⌜ (word (now v) dequeueWord < 16) × (word (now v) enqueueWord < 16) × (512 ≤ length (now v))
+        × (8 * w + 8 ≤ length (now v)) ⌝ }
     ensures { λ r. ⌜ r ≡ view (word (now (v .entry))) w ⌝ }
 {
-    let mut p = Position::new(words::word_at(v, DEQUEUE_WORD));
+    let mut p = Position::new(words::word_at(v, layout::DEQUEUE_WORD));
     let mut left = open_count(v);
     while 0 < left {
         if target_at(v, p) == (w as u64) {
@@ -140,7 +136,7 @@ fn target_ok(inodes: u64, t: u64) -> bool
     if t < 64 {
         return false;
     }
-    if 64 + 8 * inodes <= t {
+    if layout::valid_word(inodes as usize) as u64 <= t {
         return false;
     }
     t % 8 < 3
@@ -152,7 +148,7 @@ fn targets_ok(v: &[u8], inodes: u64) -> bool
     requires { ⌜ (word (now v) dequeueWord < 16) × (word (now v) enqueueWord < 16) × (512 ≤ length (now v)) × (inodes ≤ 256) ⌝ }
     ensures { λ r. ⌜ r ≡ all (targetOk inodes) (openTargets (word (now (v .entry)))) ⌝ }
 {
-    let mut p = Position::new(words::word_at(v, DEQUEUE_WORD));
+    let mut p = Position::new(words::word_at(v, layout::DEQUEUE_WORD));
     let mut left = open_count(v);
     while 0 < left {
         if !target_ok(inodes, target_at(v, p)) {
@@ -170,7 +166,7 @@ fn targets_differ(v: &[u8]) -> bool
     requires { ⌜ (word (now v) dequeueWord < 16) × (word (now v) enqueueWord < 16) × (512 ≤ length (now v)) ⌝ }
     ensures { λ r. ⌜ r ≡ distinct (openTargets (word (now (v .entry)))) ⌝ }
 {
-    let mut p = Position::new(words::word_at(v, DEQUEUE_WORD));
+    let mut p = Position::new(words::word_at(v, layout::DEQUEUE_WORD));
     let mut left = open_count(v);
     while 0 < left {
         let t = target_at(v, p);
@@ -190,10 +186,10 @@ pub fn journal_ok(v: &[u8], inodes: u64) -> bool
     requires { ⌜ (512 ≤ length (now v)) × (inodes ≤ 256) ⌝ }
     ensures { λ r. ⌜ r ≡ journalOk (word (now (v .entry))) inodes ⌝ }
 {
-    if Position::COUNT <= words::word_at(v, DEQUEUE_WORD) {
+    if Position::COUNT <= words::word_at(v, layout::DEQUEUE_WORD) {
         return false;
     }
-    if Position::COUNT <= words::word_at(v, ENQUEUE_WORD) {
+    if Position::COUNT <= words::word_at(v, layout::ENQUEUE_WORD) {
         return false;
     }
     if 4 < open_count(v) {

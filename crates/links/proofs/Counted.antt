@@ -1,11 +1,5 @@
 -- The names that lead to an inode, counted place by place: those found so far and those among the places that are left are all of them.
-use Prim.Native.Nat.{ℕ, _+_, _-_, _*_, _≤_, _<_}
-use mathlib.Core.Path.{_≡_, sym, _∙_}
-use mathlib.Core.List.{List}
-use native.Mathlib.Omega.{arith}
-use native.Mathlib.Nat.{add-zero, zero-add}
-use lib.Dec.{eqb}
-use lib.ListN.{getD, take}
+use Rattle.model.proofs.Prelude.{ℕ, _+_, _-_, _*_, _≤_, _<_, _≡_, sym, _∙_, List, arith, add-zero, zero-add, eqb, getD, take}
 use Rattle.model.specs.Lists.{bit, count, valuesFrom}
 use Rattle.model.specs.Words.{Mem}
 use Rattle.model.specs.State.{inodes}

@@ -1,11 +1,5 @@
 -- The lowest invalid inode: the search from inode k on is the test of k, and the search from the next on.
-use Prim.Native.Nat.{ℕ, suc, _+_, _-_, _≤_, _<_}
-use mathlib.Core.Path.{_≡_, refl, sym, _∙_}
-use mathlib.Core.Bool.{Bool, true, false, not}
-use mathlib.Core.Option.{Option, none, some}
-use native.Mathlib.Omega.{arith}
-use lib.Dec.{eqb}
-use borrow.Author.Tests.{ne-eqb, lt-ltb, not-true, not-false}
+use Rattle.model.proofs.Prelude.{ℕ, suc, _+_, _-_, _≤_, _<_, _≡_, refl, sym, _∙_, Bool, true, false, not, Option, none, some, arith, eqb, ne-eqb, lt-ltb, not-true, not-false}
 use Rattle.model.specs.Lists.{lowest, isSome, orElse}
 use Rattle.model.specs.Words.{Mem}
 use Rattle.model.specs.Accept.{isValid}

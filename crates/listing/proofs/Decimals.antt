@@ -1,10 +1,5 @@
 -- Numbers in decimal: the digits of x are those of x / 10 and then the last one, since 20 digits hold every number of 64 bits.
-use Prim.Native.Nat.{ℕ, zero, suc, _+_, _/_, _%_, _^_, _≤_, _<_}
-use mathlib.Core.Path.{_≡_, refl, sym, _∙_, ap}
-use mathlib.Core.List.{List, [], _∷_, _++_, append-assoc}
-use native.Mathlib.Omega.{arith}
-use borrow.Author.Tests.{lt-ltb, le-ltb}
-use lib.ListN.{length}
+use Rattle.model.proofs.Prelude.{ℕ, zero, suc, _+_, _/_, _%_, _^_, _≤_, _<_, _≡_, refl, sym, _∙_, ap, List, [], _∷_, _++_, append-assoc, arith, lt-ltb, le-ltb, length}
 use Rattle.model.specs.Listing.{digits, decimal}
 use Rattle.model.proofs.Tests.{by-lt}
 

@@ -1,11 +1,5 @@
 -- The files of an accepted volume: each name leads to one, and its log is good.
-use Prim.Native.Nat.{ℕ, _≤_, _<_}
-use mathlib.Core.Path.{_≡_, refl, ap}
-use mathlib.Core.Bool.{true}
-use mathlib.Core.List.{List, [], _∷_}
-use native.Mathlib.Omega.{arith}
-use borrow.Author.Tests.{leb-true}
-use lib.ListN.{length}
+use Rattle.model.proofs.Prelude.{ℕ, _≤_, _<_, _≡_, refl, ap, true, List, [], _∷_, arith, leb-true, length}
 use Rattle.model.specs.Lists.{all}
 use Rattle.model.specs.Words.{Mem}
 use Rattle.model.specs.Layout.{root}

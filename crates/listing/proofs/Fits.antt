@@ -1,11 +1,5 @@
 -- Every listing has room: the first line has at most 53 bytes, a refusal fewer, and each of at most 224 names a line of at most 43.
-use Prim.Native.Nat.{ℕ, _+_, _*_, _≤_, _<_}
-use mathlib.Core.Path.{_≡_}
-use mathlib.Core.Bool.{true}
-use mathlib.Core.List.{List, [], _∷_}
-use native.Mathlib.Omega.{arith}
-use borrow.Author.Tests.{lt-ltb, le-ltb}
-use lib.ListN.{length, length-append}
+use Rattle.model.proofs.Prelude.{ℕ, _+_, _*_, _≤_, _<_, _≡_, true, List, [], _∷_, arith, lt-ltb, le-ltb, length, length-append}
 use Rattle.model.specs.Words.{Mem, word}
 use Rattle.model.specs.Layout.{root}
 use Rattle.model.specs.Journal.{journalOk, isOpen, view}

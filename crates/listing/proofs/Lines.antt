@@ -1,11 +1,5 @@
 -- A line is put part by part: its parts have room where the line has it, and come to the line.
-use Prim.Native.Nat.{ℕ, _+_, _*_, _≤_}
-use mathlib.Core.Path.{_≡_}
-use mathlib.Core.Bool.{true}
-use mathlib.Core.List.{List, [], _∷_, _++_}
-use native.Mathlib.Omega.{arith}
-use lib.ListN.{length, take, drop, length-append}
-use lib.Seq.{take-append-le}
+use Rattle.model.proofs.Prelude.{ℕ, _+_, _*_, _≤_, _≡_, true, List, [], _∷_, _++_, arith, length, take, drop, length-append, take-append-le}
 use Rattle.model.specs.Words.{Mem}
 use Rattle.model.specs.Entry.{padded, fieldOk}
 use Rattle.model.specs.Listing.{filesWord, freeWord, refusedWord, decimal, firstLine, nameLine, refusalLine}

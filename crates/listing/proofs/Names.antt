@@ -1,13 +1,6 @@
 -- The line of a name, by what the code read of its entry and its file; and the loop: the lines from the i-th name on are the one there and
 -- those after it.
-use Prim.Native.Nat.{ℕ, _+_, _*_, _≤_, _<_}
-use mathlib.Core.Path.{_≡_, _∙_, ap}
-use mathlib.Core.Bool.{true}
-use mathlib.Core.List.{List, _∷_, _++_}
-use native.Mathlib.Omega.{arith}
-use native.Mathlib.Numerals.{add-one}
-use lib.ListN.{length, getD, length-append}
-use lib.Seq.{slice, slice-cons, length-slice}
+use Rattle.model.proofs.Prelude.{ℕ, _+_, _*_, _≤_, _<_, _≡_, _∙_, ap, true, List, _∷_, _++_, arith, add-one, length, getD, length-append, slice, slice-cons, length-slice}
 use Rattle.model.specs.Words.{word}
 use Rattle.model.specs.Journal.{view}
 use Rattle.model.specs.State.{fileOf}

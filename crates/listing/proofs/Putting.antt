@@ -1,11 +1,5 @@
 -- Bytes and numbers put one after the other: what is left to put has room, and comes to what there was to put.
-use Prim.Native.Nat.{ℕ, _+_, _/_, _%_, _^_, _≤_, _<_}
-use mathlib.Core.Path.{_≡_, _∙_}
-use mathlib.Core.List.{List, [], _∷_, _++_}
-use native.Mathlib.Omega.{arith}
-use native.Mathlib.Numerals.{add-one}
-use lib.ListN.{length, getD, drop, length-drop, length-append}
-use lib.Seq.{drop-cons}
+use Rattle.model.proofs.Prelude.{ℕ, _+_, _/_, _%_, _^_, _≤_, _<_, _≡_, _∙_, List, [], _∷_, _++_, arith, add-one, length, getD, drop, length-drop, length-append, drop-cons}
 use Rattle.model.specs.Listing.{decimal}
 use Rattle.model.proofs.Lists.{no-length}
 use Rattle.stores.specs.Emitted.{Emitted}

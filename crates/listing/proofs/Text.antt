@@ -1,12 +1,5 @@
 -- What a volume's listing is: the line of the refusal that the gate answers, or the text, read from the gate's tables.
-use Prim.Native.Nat.{ℕ, _+_, _*_, _≤_, _<_}
-use mathlib.Core.Path.{_≡_, refl, sym, _∙_, ap}
-use mathlib.Core.Bool.{true}
-use mathlib.Core.List.{List, [], _++_}
-use mathlib.Core.Option.{Option, some}
-use native.Mathlib.Omega.{arith}
-use borrow.Author.Tests.{lt-ltb, le-ltb}
-use lib.ListN.{length, take, drop}
+use Rattle.model.proofs.Prelude.{ℕ, _+_, _*_, _≤_, _<_, _≡_, refl, sym, _∙_, ap, true, List, [], _++_, Option, some, arith, lt-ltb, le-ltb, length, take, drop}
 use Rattle.model.specs.Words.{word}
 use Rattle.model.specs.Layout.{root}
 use Rattle.model.specs.Journal.{journalOk, view}
@@ -25,7 +18,7 @@ use Rattle.answer.specs.Meaning.{meaning, refusalOf}
 use Rattle.answer.specs.declared.Answer.{Answer}
 use Rattle.answer.specs.declared.Answer.the-variants.{Number, NoVolume}
 use Rattle.gate.specs.Gated.{rootNames, Tables, Gated}
-use Rattle.gate.proofs.Gates.{refusal-of, same-refusal, none-refuses, gate-word-0, gate-word-1, gate-pages, gate-ready}
+use Rattle.gate.proofs.Gates.{refusal-of, same-refusal, none-refuses, gate-word-1, gate-pages, gate-ready}
 use Rattle.answer.proofs.Codes.{NoNumber}
 use Rattle.stores.specs.Emitted.{Emitted}
 use Rattle.stores.proofs.Emitting.{emitted-both, emitted-parts}
@@ -41,9 +34,6 @@ module _ (v : List ℕ) (n : ℕ) (places marks : List ℕ) (t : Tables v root n
   -- such tables are what a gate with no checks leaves
   gated : Gated v root [] (Number n) places marks
   gated = record { answer = rw count-is; tables = λ k e. let q : n ≡ k = cc in rw (← q) t }
-
-  pub text-word-0 : 8 * 0 + 8 ≤ length v
-  text-word-0 = gate-word-0 v [] (Number n) places marks gated n refl
 
   pub text-word-1 : 8 * 1 + 8 ≤ length v
   text-word-1 = gate-word-1 v [] (Number n) places marks gated n refl

@@ -17,6 +17,7 @@ ghost use Rattle.gate.specs.Gated.{Tables};
 ghost use Rattle.stores.specs.Emitted.{Emitted};
 ghost use Rattle.listing.specs.Lines.{GoodFile, GoodFiles, lineOf};
 use answer::Answer;
+use layout::Sizes;
 
 // The bytes of the text. No listing is longer: its first line has at most 53, and 224 names have lines of at most 43.
 pub const TEXT_BYTES: usize = 9728;
@@ -134,7 +135,8 @@ fn put_line(
 ) -> usize
     requires { ⌜ (placeOk (word (now v)) (length (now v)) place ≡ true)
         × (at + 3 + length (decimal inode) + length (decimal size) + length (nameAt (word (now v)) (8 * place)) ≤ 9728) ⌝ }
-    ensures { λ r. ⌜ Emitted (now (text .entry)) at (nameLine inode size (nameAt (word (now (v .entry))) (8 * place))) r (now (text .exit)) ⌝ }
+    ensures { λ r. ⌜ Emitted (now (text .entry)) at (nameLine inode size (nameAt (word (now (v .entry))) (8 * place)))
+        r (now (text .exit)) ⌝ }
 {
     let a = put_number(text, at, inode);
     let b = put_field(text, a, size);
@@ -165,7 +167,8 @@ fn put_file(
     pages: usize,
     inodes: usize,
 ) -> usize
-    requires { ⌜ Ready (word (now v)) (length (now v)) pages inodes × (place < 65536) × (placeOk (word (now v)) (length (now v)) place ≡ true)
+    requires { ⌜ Ready (word (now v)) (length (now v)) pages inodes × (place < 65536)
+        × (placeOk (word (now v)) (length (now v)) place ≡ true)
         × GoodFile (view (word (now v))) pages inodes (word (now v) (8 * place + 1))
         × (at + length (lineOf (word (now v)) pages inodes place) ≤ 9728) ⌝ }
     ensures { λ r. ⌜ Emitted (now (text .entry)) at (lineOf (word (now (v .entry))) pages inodes place) r (now (text .exit)) ⌝ }
@@ -192,7 +195,8 @@ fn put_files(
         × GoodFiles (view (word (now v))) pages inodes (standing (word (now v)) (take count (now places)))
         × (at + length (nameLines (view (word (now v))) pages inodes (standing (word (now v)) (take count (now places)))) ≤ 9728) ⌝ }
     ensures { λ r. ⌜ Emitted (now (text .entry)) at
-        (nameLines (view (word (now (v .entry)))) pages inodes (standing (word (now (v .entry))) (take count (now (places .entry))))) r (now (text .exit)) ⌝ }
+        (nameLines (view (word (now (v .entry)))) pages inodes (standing (word (now (v .entry))) (take count (now (places .entry))))) r
+        (now (text .exit)) ⌝ }
 {
     let mut next = at;
     let mut i: usize = 0;
@@ -216,13 +220,13 @@ fn put_text(
     count: usize,
 ) -> usize
     requires { ⌜ Tables (now v) root count (now places) (now marks) ⌝ }
-    ensures { λ r. ⌜ Emitted (now (text .entry)) 0 (textOf (view (word (now (v .entry)))) (word (now (v .entry)) 0) (word (now (v .entry)) 1)) r (now (text .exit)) ⌝ }
+    ensures { λ r. ⌜ Emitted (now (text .entry)) 0 (textOf (view (word (now (v .entry)))) (word (now (v .entry)) 0)
+        (word (now (v .entry)) 1)) r (now (text .exit)) ⌝ }
 {
-    let pages = words::word_at(v, header::PAGES_WORD) as usize;
-    let inodes = words::word_at(v, header::INODES_WORD) as usize;
-    let free = inodes::free_count(marks, pages, inodes);
+    let sizes = Sizes::of(v);
+    let free = inodes::free_count(marks, sizes.pages, sizes.inodes);
     let at = put_first(text, 0, count as u64, free);
-    put_files(text, at, v, places, count, pages, inodes)
+    put_files(text, at, v, places, count, sizes.pages, sizes.inodes)
 }
 
 // Lays what volume_list prints of a volume into the text, and answers how many bytes it is; the rest of the text keeps its bytes. v may
@@ -239,7 +243,7 @@ pub fn lay_listing(v: &[u8], text: &mut [u8; TEXT_BYTES]) -> usize
     }
     let mut places = [0u16; 224];
     let mut marks = [0u8; 4096];
-    let gate = gate::closed(v, gate::ROOT, &mut places, &mut marks);
+    let gate = gate::closed(v, layout::ROOT, &mut places, &mut marks);
     let Answer::Number(count) = gate else {
         return put_refusal(text, 0, answer::refusal(gate));
     };

@@ -1,20 +1,10 @@
 -- The cases of the functions' answers: each kind of an entry, each turn of the walk, each way in which a log starts.
-use Prim.Native.Nat.{ℕ, zero, suc, _+_, _*_, _-_, _/_, _%_, _≤_, _<_}
-use mathlib.Core.Path.{_≡_, refl, sym, _∙_, ap}
-use mathlib.Core.Bool.{Bool, true, false}
-use mathlib.Core.List.{List}
-use mathlib.Core.Option.{Option, none, some}
-use native.Mathlib.Omega.{arith}
-use native.Mathlib.Numerals.{sub-one}
-use native.Mathlib.Nat.{le-refl, add-zero}
+use Rattle.model.proofs.Prelude.{ℕ, zero, suc, _+_, _*_, _-_, _/_, _%_, _≤_, _<_, _≡_, refl, sym, _∙_, ap, Bool, true, false, List, Option, none, some, arith, sub-one, le-refl, add-zero, length, take, drop, length-drop, take-all, eq-eqb, ne-eqb, lt-ltb, le-ltb}
 use mir.Val.{Fits}
 use mir.Syntax.{w64}
-use lib.ListN.{length, take, drop, length-drop}
-use lib.Seq.{take-all}
-use borrow.Author.Tests.{eq-eqb, ne-eqb, lt-ltb, le-ltb}
 use Rattle.model.specs.Lists.{isSome}
 use Rattle.model.specs.Words.{Mem, word}
-use Rattle.model.specs.Layout.{inPages}
+use Rattle.model.specs.Layout.{footer, inPages}
 use Rattle.model.specs.Log.{walk, onto, tailOk, pagesOf}
 use Rattle.model.proofs.Tests.{not-true-false}
 use Rattle.model.proofs.Words.{word-drop}
@@ -101,11 +91,11 @@ unfolding walk inPages
 ends-here zero m P N p q z e l g h k = absurd (omega arith)
 ends-here (suc n) m P N p q z e l g h k = rw (lt-ltb (N / 8) p g, lt-ltb p P h, eq-eqb p q k) at e
 
-pub ends-next : (n : ℕ) (m : Mem) (P N p q r : ℕ) (z : Bool) → isSome (walk m P N n p q) ≡ z → 0 < n → N / 8 < p → p < P → (p ≡ q → ⊥) → r ≡ m (64 * p + 56)
-    → isSome (walk m P N (n - 1) r q) ≡ z
+pub ends-next : (n : ℕ) (m : Mem) (P N p q w r : ℕ) (z : Bool) → isSome (walk m P N n p q) ≡ z → 0 < n → N / 8 < p → p < P → (p ≡ q → ⊥)
+    → w ≡ footer p → r ≡ m w → isSome (walk m P N (n - 1) r q) ≡ z
 unfolding walk inPages
-ends-next zero m P N p q r z e l g h k j = absurd (omega arith)
-ends-next (suc n) m P N p q r z e l g h k j = rw (sub-one, j) (rw (lt-ltb (N / 8) p g, lt-ltb p P h, ne-eqb p q k, onto-some) at e)
+ends-next zero m P N p q w r z e l g h k i j = absurd (omega arith)
+ends-next (suc n) m P N p q w r z e l g h k i j = rw (sub-one, j, i) (rw (lt-ltb (N / 8) p g, lt-ltb p P h, ne-eqb p q k, onto-some) at e)
 
 pub ends-spent : (n : ℕ) (m : Mem) (P N p q : ℕ) (z : Bool) → isSome (walk m P N n p q) ≡ z → n ≤ 0 → false ≡ z
 unfolding walk

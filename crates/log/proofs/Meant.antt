@@ -1,9 +1,5 @@
 -- What a volume's words say of an entry, as the code has it, means the model's entry there: the four words of a name are its 32 bytes.
-use Prim.Native.Nat.{ℕ, zero, suc, _+_, _<_}
-use mathlib.Core.Path.{_≡_}
-use native.Mathlib.Omega.{arith}
-use native.Mathlib.Nat.{zero-add, add-zero, add-assoc}
-use lib.Dec.{eqb}
+use Rattle.model.proofs.Prelude.{ℕ, zero, suc, _+_, _<_, _≡_, arith, zero-add, add-zero, add-assoc, eqb}
 use Rattle.model.specs.Words.{Mem}
 use Rattle.model.specs.Entry.{entryAt, nameField}
 use Rattle.model.proofs.Tests.{by-bool}

@@ -1,12 +1,5 @@
 -- The first words of a log's entries: none comes twice, since its pages differ, and each is eight words behind the one before or starts a page.
-use Prim.Native.Nat.{ℕ, zero, suc, _+_, _*_, _/_, _%_, _≤_}
-use mathlib.Core.Path.{_≡_, refl, sym, _∙_}
-use mathlib.Core.Logic.{⊎-elim}
-use mathlib.Core.Bool.{true, false}
-use mathlib.Core.List.{List, [], _∷_, _++_}
-use mathlib.Core.Option.{Option, none, some}
-use native.Mathlib.Omega.{arith}
-use borrow.Author.Tests.{eq-eqb, le-leb}
+use Rattle.model.proofs.Prelude.{ℕ, zero, suc, _+_, _*_, _/_, _%_, _≤_, _≡_, refl, sym, _∙_, ⊎-elim, true, false, List, [], _∷_, _++_, Option, none, some, arith, eq-eqb, le-leb}
 use Rattle.model.specs.Lists.{all, has, distinct, orElse}
 use Rattle.model.specs.Words.{Mem}
 use Rattle.model.specs.Log.{slots, entryWords, logPages, pages, tailSlots}

@@ -1,13 +1,5 @@
 -- A log whose walk ends, read by a cursor: page by page the cursor meets the words of the model, and it stays inside.
-use Prim.Native.Nat.{ℕ, zero, suc, _+_, _*_, _-_, _/_, _%_, _≤_, _<_}
-use mathlib.Core.Path.{_≡_, refl, sym}
-use mathlib.Core.Bool.{true}
-use mathlib.Core.List.{List, [], _∷_, _++_, append-nil}
-use mathlib.Core.Option.{Option, none, some}
-use native.Mathlib.Omega.{arith}
-use native.Mathlib.Nat.{zero-add, add-zero}
-use lib.ListN.{length}
-use borrow.Author.Tests.{eq-eqb, ne-eqb, lt-ltb}
+use Rattle.model.proofs.Prelude.{ℕ, zero, suc, _+_, _*_, _-_, _/_, _%_, _≤_, _<_, _≡_, refl, sym, true, List, [], _∷_, _++_, append-nil, Option, none, some, arith, zero-add, add-zero, length, eq-eqb, ne-eqb, lt-ltb}
 use Rattle.model.specs.Lists.{isSome}
 use Rattle.model.specs.Words.{Mem}
 use Rattle.model.specs.Log.{walk, slots, entryWords, tailOk, pagesOf}

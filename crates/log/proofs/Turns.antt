@@ -1,14 +1,6 @@
 -- One turn of a loop that reads a log by steps: at a cursor that is inside and not at the end the step is safe, and what it hands
 -- back is the first of the entries that are left.
-use Prim.Native.Nat.{ℕ, zero, suc, _+_, _*_, _-_, _≤_, _<_}
-use mathlib.Core.Path.{_≡_, refl}
-use mathlib.Core.Bool.{true, _&&_}
-use mathlib.Core.List.{[], _∷_}
-use native.Mathlib.Omega.{arith}
-use native.Mathlib.Numerals.{sub-one}
-use lib.Dec.{ltb, leb}
-use lib.ListN.{length}
-use borrow.Author.Tests.{eq-eqb, ne-eqb, ltb-true, le-leb}
+use Rattle.model.proofs.Prelude.{ℕ, zero, suc, _+_, _*_, _-_, _≤_, _<_, _≡_, refl, true, _&&_, [], _∷_, arith, sub-one, ltb, leb, length, eq-eqb, ne-eqb, ltb-true, le-leb}
 use Rattle.model.specs.Lists.{all}
 use Rattle.model.specs.Words.{Mem}
 use Rattle.model.specs.Entry.{entryAt}

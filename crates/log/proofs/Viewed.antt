@@ -1,11 +1,5 @@
 -- A log read from the raw memory is the log of the view: its pages lie past the inode table, where both have the same words.
-use Prim.Native.Nat.{ℕ, zero, suc, _+_, _*_, _/_, _%_, _≤_}
-use mathlib.Core.Path.{_≡_, refl, sym, _∙_}
-use mathlib.Core.Bool.{Bool, true, false, not}
-use mathlib.Core.List.{List, [], map}
-use mathlib.Core.Option.{Option, none, some}
-use native.Mathlib.Omega.{arith}
-use borrow.Author.Tests.{ne-eqb}
+use Rattle.model.proofs.Prelude.{ℕ, zero, suc, _+_, _*_, _/_, _%_, _≤_, _≡_, refl, sym, _∙_, Bool, true, false, not, List, [], map, Option, none, some, arith, ne-eqb}
 use Rattle.model.specs.Lists.{isSome, orElse}
 use Rattle.model.specs.Words.{Mem}
 use Rattle.model.specs.Layout.{headWord, tailWord, footer, inPages}
@@ -72,30 +66,30 @@ module _ (m : Mem) (P N : ℕ) (eight : N % 8 ≡ 0) (j : journalOk m N ≡ true
   inode-entries = entries-raw m (view m) P N eight (λ w h. view-raw m N w j h) (view m (headWord k)) (view m (tailWord k))
 
 -- Inode k's log, whose head h and tail t the code read from the view; r is what `log_found` answered.
-module _ (m : Mem) (L P N k h t : ℕ) (ready : Ready m L P N) (g : h ≡ view m (headWord k)) (i : t ≡ view m (tailWord k))
-    (r : Bool) (e : r ≡ isSome (pagesOf m P N h t)) where
+module _ (m : Mem) (L P N k a b h t : ℕ) (ready : Ready m L P N) (x : a ≡ headWord k) (g : h ≡ view m a) (y : b ≡ tailWord k)
+    (i : t ≡ view m b) (r : Bool) (e : r ≡ isSome (pagesOf m P N h t)) where
   found-is : isSome (pagesOf m P N h t) ≡ isSome (logPages (view m) P N k)
-  found-is = rw (g, i, inode-pages m P N (ready .eight) (ready .journal) k)
+  found-is = rw (g, i, x, y, inode-pages m P N (ready .eight) (ready .journal) k)
 
   pub log-lost : not r ≡ true → LogOf m L P N k (record { found = false; start = 0; end = 0; pages = P })
   log-lost n =
       let z : isSome (logPages (view m) P N k) ≡ false = sym found-is ∙ asked-false (isSome (pagesOf m P N h t)) r e n in
-      record { answer = sym z; of-pages = refl; inside = λ y. no y; apart = λ y. no y; placed = λ y. no y; entries-are = λ y. no y }
+      record { answer = sym z; of-pages = refl; inside = λ z. no z; apart = λ z. no z; placed = λ z. no z; entries-are = λ z. no z }
 
   module _ (n : not r ≡ false) where
     reading : Read m P N h t
     reading = read m P N h t (asked-true (isSome (pagesOf m P N h t)) r e n)
 
     pub start-room : startOf h t ≤ 262144
-    start-room = let x = reading .start in let y = ready .pages in omega arith
+    start-room = let c = reading .start in let d = ready .pages in omega arith
 
     pub log-there : (at : ℕ) → at ≡ startOf h t → LogOf m L P N k (record { found = true; start = at; end = t / 8; pages = P })
     unfolding entriesFrom
     log-there at q =
         let w : wordsFrom (7 * P) m at (t / 8) ≡ wordsOf m P N h t = rw q (reading .words) in
         let d : wordsOf m P N h t ≡ entryWords (pages (view m) P N k) (tailSlots (view m) k) =
-        rw (g, i) (inode-words m P N (ready .eight) (ready .journal) k) in
-        let f : map (entryAt m) (wordsOf m P N h t) ≡ entries (view m) P N k = rw (g, i) (inode-entries m P N (ready .eight) (ready .journal) k) in
+        rw (g, i, x, y) (inode-words m P N (ready .eight) (ready .journal) k) in
+        let f : map (entryAt m) (wordsOf m P N h t) ≡ entries (view m) P N k = rw (g, i, x, y) (inode-entries m P N (ready .eight) (ready .journal) k) in
         record {
           answer = sym (asked-true (isSome (pagesOf m P N h t)) r e n) ∙ found-is;
           of-pages = refl;

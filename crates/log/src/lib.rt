@@ -114,8 +114,8 @@ fn land(v: &[u8], at: usize) -> usize
     requires { ⌜ (8 * at + 8 ≤ length (now v)) × (landing (word (now v)) at < 262144) ⌝ }
     ensures { λ r. ⌜ r ≡ landing (word (now (v .entry))) at ⌝ }
 {
-    if at % 64 == 56 {
-        return 64 * (words::word_at(v, at) as usize);
+    if at % layout::PAGE_WORDS == layout::ENTRY_WORDS * layout::PAGE_ENTRIES {
+        return layout::PAGE_WORDS * (words::word_at(v, at) as usize);
     }
     at
 }
@@ -134,7 +134,9 @@ pub fn log_step(v: &[u8], c: Cursor) -> Step
     let e = entry_of(&v[b..]);
     Step {
         entry: e,
-        next: Cursor { at: at + 8 },
+        next: Cursor {
+            at: at + layout::ENTRY_WORDS,
+        },
     }
 }
 
@@ -157,7 +159,7 @@ fn log_ends(v: &[u8], head: usize, last: usize, pages: usize, inodes: usize) -> 
         if p == last {
             return true;
         }
-        p = words::word_at(v, 64 * p + 56) as usize;
+        p = words::word_at(v, layout::footer(p)) as usize;
         fuel = fuel - 1;
     }
     false
@@ -173,13 +175,13 @@ fn log_found(v: &[u8], head: usize, tail: usize, pages: usize, inodes: usize) ->
     if tail == 0 {
         return true;
     }
-    if tail % 64 != 0 {
+    if tail % layout::ENTRY != 0 {
         return false;
     }
-    if tail % 512 == 0 {
+    if tail % layout::PAGE == 0 {
         return false;
     }
-    log_ends(v, head, tail / 512, pages, inodes)
+    log_ends(v, head, tail / layout::PAGE, pages, inodes)
 }
 
 // Answers the cursor at which the log with this head and tail starts; it ends at word tail / 8.
@@ -191,7 +193,7 @@ fn log_start(head: usize, tail: usize) -> usize
     if tail == 0 {
         return 0;
     }
-    64 * head
+    layout::PAGE_WORDS * head
 }
 
 // Answers the log of inode k, whose head and tail are read with the journal's open entries put back.
@@ -201,8 +203,8 @@ pub fn find_log(v: &[u8], k: usize, pages: usize, inodes: usize) -> Log
     requires { ⌜ Ready (word (now v)) (length (now v)) pages inodes × (64 * k + 576 ≤ length (now v)) ⌝ }
     ensures { λ r. ⌜ LogOf (word (now (v .entry))) (length (now (v .entry))) pages inodes k r ⌝ }
 {
-    let head = journal::viewed(v, 65 + 8 * k) as usize;
-    let tail = journal::viewed(v, 66 + 8 * k) as usize;
+    let head = journal::viewed(v, layout::head_word(k)) as usize;
+    let tail = journal::viewed(v, layout::tail_word(k)) as usize;
     if !log_found(v, head, tail, pages, inodes) {
         return Log {
             found: false,

@@ -1,14 +1,5 @@
 -- The loops over bytes: what is left from byte i on is the byte there and what is left from the next on.
-use Prim.Native.Nat.{ℕ, suc, _+_, _≤_, _<_}
-use mathlib.Core.Path.{_≡_, sym, _∙_, ap}
-use mathlib.Core.Bool.{Bool, true, false, cond}
-use mathlib.Core.List.{List, [], _∷_, _++_}
-use native.Mathlib.Omega.{arith}
-use native.Mathlib.Numerals.{add-one}
-use lib.ListN.{length, getD, set, drop, length-drop}
-use lib.Seq.{drop-cons, take-all, paste, paste-suc}
-use lib.Dec.{eqb}
-use borrow.Author.Tests.{eq-eqb, ne-eqb}
+use Rattle.model.proofs.Prelude.{ℕ, suc, _+_, _≤_, _<_, _≡_, sym, _∙_, ap, Bool, true, false, cond, List, [], _∷_, _++_, arith, add-one, length, getD, set, drop, length-drop, drop-cons, take-all, paste, paste-suc, eqb, eq-eqb, ne-eqb}
 use Rattle.model.specs.Lists.{all, sameList, valuesFrom}
 use Rattle.model.specs.Words.{Mem, byteAt}
 use Rattle.model.specs.Entry.{nameByteOk}

@@ -1,12 +1,5 @@
 -- Names in fields: a field that is as it should be is its name and zeros, since what follows the name is.
-use Prim.Native.Nat.{ℕ, zero, suc, _+_, _*_, _-_, _≤_, _<_}
-use mathlib.Core.Path.{_≡_, refl, sym, _∙_, ap}
-use mathlib.Core.Bool.{Bool, true, false}
-use mathlib.Core.List.{List, _∷_, _++_}
-use native.Mathlib.Omega.{arith}
-use lib.ListN.{length, getD, take, drop, length-take, length-drop, List·getD-eq-default}
-use lib.Seq.{ext-getD, getD-take, getD-drop}
-use borrow.Author.Tests.{eqb-true, leb-true}
+use Rattle.model.proofs.Prelude.{ℕ, zero, suc, _+_, _*_, _-_, _≤_, _<_, _≡_, refl, sym, _∙_, ap, Bool, true, false, List, _∷_, _++_, arith, length, getD, take, drop, length-take, length-drop, List·getD-eq-default, ext-getD, getD-take, getD-drop, eqb-true, leb-true}
 use Rattle.model.specs.Lists.{all, sameList, valuesFrom}
 use Rattle.model.specs.Words.{Mem, byteAt}
 use Rattle.model.specs.Entry.{padded, nameField, isZero, fieldOk}

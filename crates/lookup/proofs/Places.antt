@@ -1,13 +1,5 @@
 -- Places of a table: each is one of an entry with a name, and the names from the i-th on are the one there and those after it.
-use Prim.Native.Nat.{ℕ, _+_, _*_, _≤_, _<_}
-use mathlib.Core.Path.{_≡_, sym, _∙_}
-use mathlib.Core.Bool.{Bool, true, false}
-use mathlib.Core.List.{List, _∷_}
-use native.Mathlib.Omega.{arith}
-use native.Mathlib.Numerals.{add-one}
-use lib.ListN.{length, getD, take}
-use lib.Seq.{getD-take, length-take-le, slice, slice-cons, length-slice}
-use borrow.Author.Tests.{leb-true}
+use Rattle.model.proofs.Prelude.{ℕ, _+_, _*_, _≤_, _<_, _≡_, sym, _∙_, Bool, true, false, List, _∷_, arith, add-one, length, getD, take, getD-take, length-take-le, slice, slice-cons, length-slice, leb-true}
 use Rattle.model.specs.Lists.{sameList}
 use Rattle.model.specs.Words.{Mem}
 use Rattle.model.specs.State.{inodeOf}

@@ -13,9 +13,6 @@ ghost use Rattle.model.specs.State.{inodeOf};
 ghost use Rattle.directory.specs.Fields.{nameAt, fieldAt};
 ghost use Rattle.directory.specs.Places.{standing, placeOk, Filled};
 
-// How many bytes a name has at most, and how many its field has.
-const NAME_BYTES: usize = 32;
-
 // Answers whether every byte is one that a name may have: not 0 and not 47 ("/").
 // Example: of "ab" it is true, of "a/b" false, and of no bytes true.
 fn bytes_ok(name: &[u8]) -> bool
@@ -43,7 +40,7 @@ pub fn is_name(name: &[u8]) -> bool
     if name.len() < 1 {
         return false;
     }
-    if NAME_BYTES < name.len() {
+    if layout::NAME_BYTES < name.len() {
         return false;
     }
     bytes_ok(name)
@@ -125,7 +122,7 @@ fn lay_bytes(v: &[u8], at: usize, buffer: &mut [u8])
     ensures { λ _. ⌜ now (buffer .exit) ≡ valuesFrom (byteAt (word (now (v .entry)))) at 32 ++ drop 32 (now (buffer .entry)) ⌝ }
 {
     let mut i: usize = 0;
-    while i < NAME_BYTES {
+    while i < layout::NAME_BYTES {
         buffer[i] = words::byte_at(v, at + i);
         i = i + 1;
     }

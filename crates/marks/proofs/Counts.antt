@@ -1,15 +1,6 @@
 -- Pages that can be marked one after the other are pages that serve once: a mark counts as one use, and each page
 -- marked moves one use from the list into the marks.
-use Prim.Native.Nat.{ℕ, zero, suc, _+_, _≤_, _<_}
-use mathlib.Core.Path.{_≡_, refl, sym, _∙_}
-use mathlib.Core.Bool.{true, false, _&&_}
-use mathlib.Core.List.{List, [], _∷_, _++_}
-use native.Mathlib.Omega.{arith}
-use native.Mathlib.Nat.{add-zero, zero-add}
-use lib.ListN.{length, getD, set, replicate, length-set, getD-replicate, length-replicate, List·getD-eq-default}
-use lib.Seq.{getD-set-same, getD-set-other}
-use lib.Dec.{eqb}
-use borrow.Author.Tests.{eq-eqb, ne-eqb, eqb-true, le-leb, lt-leb}
+use Rattle.model.proofs.Prelude.{ℕ, zero, suc, _+_, _≤_, _<_, _≡_, refl, sym, _∙_, true, false, _&&_, List, [], _∷_, _++_, arith, add-zero, zero-add, length, getD, set, replicate, length-set, getD-replicate, length-replicate, List·getD-eq-default, getD-set-same, getD-set-other, eqb, eq-eqb, ne-eqb, eqb-true, le-leb, lt-leb}
 use Rattle.model.specs.Lists.{bit, all, has, count, sumBelow, allBelow}
 use Rattle.model.specs.Words.{Mem}
 use Rattle.model.specs.Layout.{inPages, filePages}

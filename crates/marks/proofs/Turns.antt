@@ -1,16 +1,5 @@
 -- The cases of the loops that mark: at one page the list of pages that are left is that page and the list after it.
-use Prim.Native.Nat.{ℕ, zero, suc, _+_, _*_, _-_, _≤_, _<_}
-use mathlib.Core.Path.{_≡_, refl, sym, _∙_}
-use mathlib.Core.Bool.{Bool, true, false, not}
-use mathlib.Core.List.{List, [], _∷_}
-use mathlib.Core.Option.{Option, none, some}
-use native.Mathlib.Omega.{arith}
-use native.Mathlib.Numerals.{sub-one}
-use lib.Dec.{eqb}
-use lib.ListN.{getD, set}
-use borrow.Author.Tests.{eq-eqb, ne-eqb, not-true, not-false}
-use mir.Val.{Fits}
-use mir.Syntax.{w64}
+use Rattle.model.proofs.Prelude.{ℕ, zero, suc, _+_, _*_, _-_, _^_, _≤_, _<_, _≡_, refl, sym, _∙_, Bool, true, false, not, List, [], _∷_, Option, none, some, arith, sub-one, eqb, getD, set, eq-eqb, ne-eqb, not-true, not-false}
 use Rattle.model.specs.Lists.{all, isSome, orElse}
 use Rattle.model.specs.Words.{Mem}
 use Rattle.model.specs.Layout.{footer, inPages}
@@ -71,25 +60,22 @@ module _ (n : ℕ) (m : Mem) (P N p q : ℕ) (w : isSome (walk m P N n p q) ≡ 
   pub walk-low : P ≤ 4096 → p < 4096
   walk-low h = let b = in-bounds P N p (walk-in n m P N p q w) in omega arith
 
-  pub walk-room : (L : ℕ) → 512 * P ≤ L → 8 * (64 * p + 56) + 8 ≤ L
-  walk-room L h = let b = in-bounds P N p (walk-in n m P N p q w) in omega arith
+  pub walk-index : P ≤ 4096 → p < 2 ^ 57
+  walk-index h = let b = walk-low h in omega arith
 
-  pub walk-mul : P ≤ 4096 → Fits w64 (64 * p)
-  walk-mul h = let b = walk-low h in record { fits = omega arith }
+  pub walk-room : (a L : ℕ) → a ≡ footer p → 512 * P ≤ L → 8 * a + 8 ≤ L
+  walk-room a L i h = let b = in-bounds P N p (walk-in n m P N p q w) in omega arith
 
-  pub walk-add : P ≤ 4096 → Fits w64 (64 * p + 56)
-  walk-add h = let b = walk-low h in record { fits = omega arith }
-
-  pub walk-turn : (r : ℕ) → 0 < n → (p ≡ q → ⊥) → r ≡ m (footer p) → isSome (walk m P N (n - 1) r q) ≡ true
-  walk-turn r l d e = rw e (step-out n m P N p q w l d .0)
+  pub walk-turn : (a r : ℕ) → 0 < n → (p ≡ q → ⊥) → a ≡ footer p → r ≡ m a → isSome (walk m P N (n - 1) r q) ≡ true
+  walk-turn a r l d i e = rw (e, i) (step-out n m P N p q w l d .0)
 
   module _ (u v : List ℕ) (f : Bool) (e : f ≡ eqb (getD u p 0) 0) (s : v ≡ set u p 1) where
-    module _ (r : ℕ) (y : not f ≡ false) (l : 0 < n) (d : p ≡ q → ⊥) (g : r ≡ m (footer p)) where
+    module _ (a r : ℕ) (y : not f ≡ false) (l : 0 < n) (d : p ≡ q → ⊥) (i : a ≡ footer p) (g : r ≡ m a) where
       pub log-fresh : (z : Bool) → fresh u (pagesFrom m P N n p q) ≡ z → fresh v (pagesFrom m P N (n - 1) r q) ≡ z
-      log-fresh z a = fresh-next u v (pagesFrom m P N (n - 1) r q) p f z (rw (step-out n m P N p q w l d .1, ← g) at a) e y s
+      log-fresh z x = fresh-next u v (pagesFrom m P N (n - 1) r q) p f z (rw (step-out n m P N p q w l d .1, ← i, ← g) at x) e y s
 
       pub log-marked : (z : List ℕ) → marked u (pagesFrom m P N n p q) ≡ z → marked v (pagesFrom m P N (n - 1) r q) ≡ z
-      log-marked z a = marked-next u v (pagesFrom m P N (n - 1) r q) z p (rw (step-out n m P N p q w l d .1, ← g) at a) s
+      log-marked z x = marked-next u v (pagesFrom m P N (n - 1) r q) z p (rw (step-out n m P N p q w l d .1, ← i, ← g) at x) s
 
     module _ (o ps : List ℕ) (a : fresh u (pagesFrom m P N n p q) ≡ fresh o ps) where
       pub log-last : marked u (pagesFrom m P N n p q) ≡ marked o ps → not f ≡ false → p ≡ q → Marked o ps true v

@@ -45,7 +45,7 @@ mapped t i n = mappedBy (λ j. getD t j 0) i n
 unfoldable pub usedBy : Mem → ℕ → ℕ → ℕ → List ℕ
 usedBy u P N k =
     cond (isValid u k)
-    (pages u P N k ++ cond (isDirectory k) [] (mappedBy (fileOf u P N k .page) 0 filePages)) []
+    (pages u P N k ++ cond (isDirectory u k) [] (mappedBy (fileOf u P N k .page) 0 filePages)) []
 
 -- the pages that serve the inodes below k
 unfoldable pub usedBelow : Mem → ℕ → ℕ → ℕ → List ℕ

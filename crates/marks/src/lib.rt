@@ -35,7 +35,8 @@ pub fn mark_log(
     marks: &mut [u8; 4096],
 ) -> bool
     requires { ⌜ (isSome (walk (word (now v)) pages inodes pages head last) ≡ true) × (512 * pages ≤ length (now v)) × (pages ≤ 4096) ⌝ }
-    ensures { λ r. ⌜ Marked (now (marks .entry)) (orElse (walk (word (now (v .entry))) pages inodes pages head last) []) r (now (marks .exit)) ⌝ }
+    ensures { λ r. ⌜ Marked (now (marks .entry)) (orElse (walk (word (now (v .entry))) pages inodes pages head last) []) r
+        (now (marks .exit)) ⌝ }
 {
     let mut p = head;
     let mut fuel = pages;
@@ -46,7 +47,7 @@ pub fn mark_log(
         if p == last {
             return true;
         }
-        p = words::word_at(v, 64 * p + 56) as usize;
+        p = words::word_at(v, layout::footer(p)) as usize;
         fuel = fuel - 1;
     }
     true

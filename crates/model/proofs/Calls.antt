@@ -5,6 +5,7 @@ pub mod Changed
 pub mod Stored
 pub mod Small
 pub mod Grown
+pub mod Actions
 pub mod Names
 pub mod NameCalls
 pub mod Files

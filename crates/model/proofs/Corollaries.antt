@@ -1,20 +1,13 @@
 -- What follows from the third demand: finished calls are kept, a cut leaves one of two maps, and a recovery run through keeps the map. Each by
 -- induction over the events, from the claim's step.
-use mathlib.Core.Path.{_≡_, refl, sym, _∙_}
-use mathlib.Core.Logic.{_⊎_, inl, inr, ⊎-elim, ⊎-map}
-use Prim.Native.Nat.{ℕ, _≤_}
-use mathlib.Core.Bool.{Bool, true, false}
-use mathlib.Core.List.{List, [], _∷_}
-use native.Mathlib.Omega.{arith}
-use lib.ListN.{length}
+use Rattle.model.proofs.Prelude.{_≡_, refl, sym, _∙_, _⊎_, inl, inr, ⊎-elim, ⊎-map, ℕ, Bool, true, List, [], _∷_, arith}
 use Rattle.model.specs.Words.{word}
-use Rattle.model.specs.Layout.{listWords}
 use Rattle.model.specs.FileMap.{FileMap, mapAfter, Call, recover}
 use Rattle.model.specs.Power.{Power, held, cut}
 use Rattle.model.specs.Answer.{Answer, refused, done}
 use Rattle.model.specs.Public.{isAccepted}
-use Rattle.model.specs.Claim.{Bytes, CallBytes, Event, History, HistoryBytes, answerTo, landing, volumeAfter, mapIn, Demanded, Step, Kept}
-use Rattle.model.specs.Promises.{byOutcome, Explained, FinishedKept, leftBy, AtMostTwo, recoverWith, recoveries, Recovered, RunThrough}
+use Rattle.model.specs.Claim.{Bytes, CallBytes, Event, History, answerTo, landing, volumeAfter, mapIn, Demanded, Step, Kept}
+use Rattle.model.specs.Promises.{byOutcome, Explained, FinishedKept, leftBy, AtMostTwo, recoverWith, recoveries, RunThrough}
 use Rattle.model.proofs.Crash.Landing.{leaves-bytes}
 use Rattle.model.proofs.Crash.History.{history-kept, recover-done}
 use Rattle.model.proofs.ThirdDemand.{every-call-safe}

@@ -1,14 +1,6 @@
 -- Format: up to the end of the table every word but 0, 1, 2 and 64 is 0. So the journal is closed, the directory's log is empty and no file is valid.
-use mathlib.Core.Path.{_≡_, sym, _∙_}
-use Prim.Native.Nat.{ℕ, zero, suc, _+_, _-_, _*_, _≤_, _<_}
-use mathlib.Core.Bool.{true, false, cond}
-use mathlib.Core.List.{List, [], _++_}
-use mathlib.Core.Option.{none}
-use native.Mathlib.Omega.{arith}
-use lib.ListN.{length, getD, drop, replicate, length-append, length-drop, length-replicate, getD-replicate, List·getD-append}
-use lib.Dec.{eqb}
-use borrow.Author.Tests.{eq-eqb, ne-eqb, lt-ltb, le-ltb}
-use Rattle.model.specs.Lists.{bit, sumBelow, all, count, foldl}
+use Rattle.model.proofs.Prelude.{_≡_, sym, _∙_, ℕ, _+_, _-_, _*_, _≤_, _<_, true, false, cond, List, [], _++_, none, arith, length, getD, drop, replicate, length-append, length-drop, length-replicate, getD-replicate, List·getD-append, eqb, eq-eqb, ne-eqb, lt-ltb, le-ltb}
+use Rattle.model.specs.Lists.{bit, all, count, foldl}
 use Rattle.model.specs.Words.{Mem, word, putWord}
 use Rattle.model.specs.Layout.{sizesOk, tablePages, validWord, tailWord, inPages, root}
 use Rattle.model.specs.Journal.{dequeueWord, enqueueWord, isOpen}

@@ -1,34 +1,29 @@
 -- How long the store lists are: the words that a group stores stand in a list, and the group's text has two words for each of them at most.
-use mathlib.Core.Path.{_≡_, refl, sym}
-use mathlib.Core.Logic.{⊎-elim}
-use Prim.Native.Nat.{ℕ, zero, suc, _+_, _-_, _*_, _/_, _%_, _≤_, _<_}
-use mathlib.Core.Bool.{Bool, true, false, cond, _&&_}
-use mathlib.Core.List.{List, [], _∷_, _++_}
-use mathlib.Core.Option.{Option, none, some}
-use native.Mathlib.Omega.{arith}
-use native.Mathlib.Numerals.{add-one}
-use lib.ListN.{length, getD, length-append, length-map}
-use lib.Dec.{leb, ltb, eqb}
-use borrow.Author.Tests.{leb-true, ltb-true, ltb-false, eqb-true, eq-eqb, ne-eqb, le-leb, lt-leb}
-use Rattle.model.specs.Lists.{bit, valuesFrom, has, indexOf, orElse}
+use Rattle.model.proofs.Prelude.{_≡_, refl, ℕ, zero, suc, _+_, _-_, _*_, _/_, _%_, _≤_, _<_, Bool, true, false, cond, _&&_, List, [], _∷_, _++_, Option, none, some, arith, length, getD, length-append, length-map, leb, ltb, eqb, leb-true, ltb-true, ltb-false, eq-eqb, ne-eqb, le-leb, lt-leb}
+use Rattle.model.specs.Lists.{bit, allBelow, valuesFrom, has, indexOf, orElse}
+use Rattle.model.specs.Stretches.{stretches}
 use Rattle.model.specs.Words.{Mem}
-use Rattle.model.specs.Layout.{sizesOk, headWord, tailWord, footer, root, listWords}
+use Rattle.model.specs.Layout.{headWord, tailWord, footer, root, listWords}
 use Rattle.model.specs.Journal.{dequeueWord, enqueueWord, targetWord, oldWord, nextPosition, positions, openCount, openPositions, openTargets, isOpen, view, journalOk}
 use Rattle.model.specs.Log.{tailSlots}
 use Rattle.model.specs.State.{fileOf, namesOf, inodeOf}
-use Rattle.model.specs.Accept.{namesOk, viewOk, accepted}
+use Rattle.model.specs.Accept.{free, namesOk, viewOk, accepted}
 use Rattle.model.specs.FileMap.{Call, create, link, unlink, rename, write, setSize, clean, recover}
-use Rattle.model.specs.Stores.{Stores, oneWord, run, both, onlyIf, listed, storeList}
-use Rattle.model.specs.Calls.{layEntries, tailAfter, pagesFor, tailPages, pagesNeeded, Change, commitOne, journalPairs, targets, commitTogether, commit, Append, entriesOnly, logPagesBeside, dataStart, appended, freshPages, freshLog, prepared, newTail, release, invalidInode, createAppend, createGroups, linkAppend, linkGroups, unlinkAppend, unlinkGroups, sameInode, renameAppend, renameGroups, writeAppend, writeChecks, writeGroups, cutsPage, sizeAppend, sameSize, sizeGroups, cleanNames, cleanEntries, cleanPages, isEmptyLog, cleanGroups, oldValues, recoverGroups, checks, groups}
+use Rattle.model.specs.Stores.{Stores, oneWord, noWords, both, onlyIf, listed, storeList}
+use Rattle.model.specs.Calls.{layEntries, layPages, tailAfter, pagesFor, tailPages, Change, commitOne, journalPairs, targets, commitTogether, commit, stretchEntries, lowestRun, runFrom, Append, entriesOnly, dataPages, appended, freshPages, freshLog, prepared, allPrepared, allChanges, actionChecks, actionGroups, release, invalidInode, createAction, linkAction, unlinkAction, sameInode, renameAction, writeAppend, writeAction, cutsPage, sizeAppend, sizeAction, cleanNames, cleanEntries, cleanAction, oldValues, recoverAction, action, checks, groups}
 use Rattle.model.specs.Promises.{mostWords}
-use Rattle.model.proofs.Tests.{by-bool, by-eq, by-lt, no, ands, cond-some, bit-le}
-use Rattle.model.proofs.Lists.{length-values, has-left, has-right, values-has, getD-index, has-head, has-tail, has-cons, few-length}
+use Rattle.model.proofs.Tests.{by-bool, by-eq, by-lt, ands, cond-some, bit-le}
+use Rattle.model.proofs.Lists.{allBelow-at, lowest-is, length-values, values-at, has-left, has-right, values-has, getD-index, has-head, few-length}
 use Rattle.model.proofs.Frame.View.{view-fine}
 use Rattle.model.proofs.State.NamesAfter.{lastName, release-is}
+use Rattle.model.proofs.State.Stretches.{no-stretch, one-stretch}
 use Rattle.model.proofs.State.Clean.{clean-file-length}
-use Rattle.model.proofs.Crash.Stores.{Only, only-none, only-word, only-run, only-both}
+use Rattle.model.proofs.Crash.Stores.{Only, only-none, only-word, only-both}
 use Rattle.model.proofs.Crash.Journal.{journal-parts, targetsOf, targets-in}
 use Rattle.model.proofs.Crash.History.{Passed}
+use Rattle.model.proofs.Calls.Room.{free-bounds}
+use Rattle.model.proofs.Calls.Stored.{fresh-on, prepared-on, changes-on}
+use Rattle.model.proofs.Calls.Actions.{both-none, one-prepared, one-changes, only-entries, fresh-anew, anew-prepared, anew-changes}
 
 -- The text of a group.
 
@@ -75,15 +70,6 @@ most-none = record { words = []; number = omega arith; only = only-none (λ w x.
 
 most-word : (i x : ℕ) → AtMost (oneWord i x) 1
 most-word i x = record { words = i ∷ []; number = omega arith; only = only-word (λ w x. has w (i ∷ []) ≡ true) i x (has-head i []) }
-
-most-run : (i n : ℕ) (f : ℕ → ℕ) → AtMost (run i n f) n
-most-run i n f =
-    let ws = valuesFrom (λ x. x) i n in
-    record {
-      words = ws;
-      number = rw length-values (omega arith);
-      only = only-run (λ w x. has w ws ≡ true) i n f (λ j l. values-has (λ x. x) i n (i + j) (omega arith) (omega arith));
-    }
 
 most-both : {s t : Stores} {a b : ℕ} → AtMost s a → AtMost t b → AtMost (both s t) (a + b)
 most-both {s} {t} p q =
@@ -170,29 +156,77 @@ module _ (ps : List ℕ) (i : ℕ) (es : List (List ℕ)) where
         only = laid-in;
       }
 
--- The first group of an append of few entries: the data, the entries, and one link or the head.
-module _ (u : Mem) (P N : ℕ) (a : Append) (few : length (appended u P N a) ≤ 7) where
-  abbrev k : ℕ
-  k = a .log
+-- data laid into pages
+most-pages : (ps : List ℕ) (f : ℕ → ℕ) → AtMost (layPages ps f) (64 * length ps)
+unfolding layPages
+most-pages ps f =
+    let at : ℕ → ℕ = λ j. 64 * getD ps (j / 64) 0 + j % 64 in
+    record {
+      words = valuesFrom at 0 (64 * length ps);
+      number = rw length-values (omega arith);
+      only = λ w x e.
+          let i = indexOf (w / 64) ps in
+          let l = ltb-true i (length ps) (cond-some (ltb i (length ps)) (some (f (64 * i + w % 64))) x e .0) in
+          let g = getD-index (w / 64) ps l in
+          let j = 64 * i + w % 64 in
+          let c : j / 64 ≡ i = omega arith in
+          let d : j % 64 ≡ w % 64 = omega arith in
+          let q : at j ≡ w = rw (c, d, g) (omega arith) in
+          rw q at (values-has at 0 (64 * length ps) j (omega arith) (omega arith));
+    }
 
-  fresh-short : length (freshLog u P N a) ≤ pagesFor (tailSlots u k + length (appended u P N a)) - length (tailPages u k)
-  unfolding freshLog logPagesBeside freshPages pagesNeeded
-  fresh-short = few-length _ P 0 (freshPages u P N a)
+-- An append. Its data is a run, so that it has one entry more at most.
+module _ (u : Mem) (P N : ℕ) (a : Append) where
+  abbrev f : ℕ → Bool
+  f = free u P N
 
-  link-or-head : length (tailPages u k ++ freshLog u P N a) - 1 + cond (eqb (u (tailWord k)) 0) 1 0 ≤ 1
-  unfolding tailPages
-  link-or-head =
-      let l = fresh-short in
-      by-eq (u (tailWord k)) 0 (λ e. let g = rw (eq-eqb _ _ e) at l in rw (eq-eqb _ _ e) (omega arith))
-      (λ e. let g = rw (ne-eqb _ _ e) at l in rw (ne-eqb _ _ e) (omega arith))
+  run-length : (n : ℕ) (o : Option ℕ) → length (runFrom n o) ≤ n
+  run-length n none = omega arith
+  run-length n (some p) = rw length-values (omega arith)
 
-  most-prepared : AtMost (prepared u P N a) (64 * a .dataPages + 8 * length (appended u P N a) + 1)
-  unfolding prepared
-  most-prepared =
-      let l = link-or-head in
-      most-less (most-both (most-run (64 * dataStart u P N a) (64 * a .dataPages) (a .words))
-      (most-both (most-laid (tailPages u k ++ freshLog u P N a) (tailSlots u k) (appended u P N a))
-      (most-if (eqb (u (tailWord k)) 0) (most-word (headWord k) (getD (freshLog u P N a) 0 0))))) (omega arith)
+  data-length : length (dataPages u P f a) ≤ a .count
+  unfolding dataPages
+  data-length = run-length (a .count) (lowestRun f P (a .count))
+
+  run-stretches : (n k : ℕ) (o : Option ℕ) → lowestRun f P n ≡ o → length (stretches (λ i. getD (runFrom n o) (i - k) 0) n k) ≤ 1
+  unfolding stretches lowestRun
+  run-stretches zero k o e = omega arith
+  run-stretches (suc n) k none e = rw (no-stretch (λ i. getD (runFrom (suc n) none) (i - k) 0) (suc n) k (λ j. refl)) (omega arith)
+  run-stretches (suc n) k (some p) e =
+      let h = lowest-is (λ p. allBelow (suc n) (λ i. f (p + i))) P 0 p e .holds in
+      let b = free-bounds u P N (p + 0) (allBelow-at (suc n) 0 (λ i. f (p + i)) h (omega arith)) in
+      rw (one-stretch (λ i. getD (runFrom (suc n) (some p)) (i - k) 0) (suc n) k p (omega arith) (omega arith)
+      (λ t l. let q : k + t - k ≡ t = omega arith in rw q (values-at (λ i. i) p (suc n) t l))) (omega arith)
+
+  few-entries : length (appended u P f a) ≤ length (a .entries) + 1
+  unfolding appended stretchEntries dataPages
+  few-entries =
+      let l = run-stretches (a .count) (a .file) (lowestRun f P (a .count)) refl in rw (length-append, length-map) (omega arith)
+
+  fresh-short : length (freshLog u P f a) ≤ freshPages u P f a
+  unfolding freshLog
+  fresh-short = few-length _ P 0 (freshPages u P f a)
+
+  -- of few entries: the data, the entries, and one link or the head
+  module _ (on : a .anew ≡ false) (few : length (appended u P f a) ≤ 7) where
+    abbrev k : ℕ
+    k = a .log
+
+    link-or-head : length (tailPages u k ++ freshLog u P f a) - 1 + cond (eqb (u (tailWord k)) 0) 1 0 ≤ 1
+    unfolding tailPages
+    link-or-head =
+        let l = rw (fresh-on u P f a on) at fresh-short in
+        by-eq (u (tailWord k)) 0 (λ e. let g = rw (eq-eqb _ _ e) at l in rw (eq-eqb _ _ e) (omega arith))
+        (λ e. let g = rw (ne-eqb _ _ e) at l in rw (ne-eqb _ _ e) (omega arith))
+
+    most-prepared : AtMost (prepared u P f a) (64 * a .count + 8 * length (appended u P f a) + 1)
+    most-prepared =
+        let l = link-or-head in
+        let d = data-length in
+        rw (prepared-on u P f a on)
+        (most-less (most-both (most-laid (tailPages u k ++ freshLog u P f a) (tailSlots u k) (appended u P f a))
+        (most-both (most-if (eqb (u (tailWord k)) 0) (most-word (headWord k) (getD (freshLog u P f a) 0 0)))
+        (most-pages (dataPages u P f a) (a .words)))) (omega arith))
 
 -- Lists of groups, for a volume of W words.
 module _ (W : ℕ) where
@@ -215,100 +249,115 @@ module _ (W : ℕ) where
   unfolding commitTogether storeList
   together-short u m cs =
       let e = (u enqueueWord + length cs) % 16 in
-      let a = list-step (most-both (most-pairs u (u enqueueWord) cs) m) (oneWord enqueueWord e ∷ targets cs ∷ oneWord dequeueWord e ∷ []) in
+      let a = list-step (most-both m (most-pairs u (u enqueueWord) cs)) (oneWord enqueueWord e ∷ targets cs ∷ oneWord dequeueWord e ∷ []) in
       let b = list-step (most-word enqueueWord e) (targets cs ∷ oneWord dequeueWord e ∷ []) in
       let c = list-step (most-targets cs) (oneWord dequeueWord e ∷ []) in
       let d = list-step (most-word dequeueWord e) [] in omega arith
 
   commit-short : {s : Stores} {n : ℕ} (u : Mem) → AtMost s n → (c : Change) (cs : List Change) → length cs ≤ 1
-      → length (storeList W (commit u s c cs)) ≤ 2 * n + 24
+      → length (storeList W (commit u s (c ∷ cs))) ≤ 2 * n + 24
   unfolding commit
   commit-short u m c [] l = let r = one-short m c in omega arith
   commit-short u m c (d ∷ cs) l = let r = together-short u m (c ∷ d ∷ cs) in omega arith
+
+  -- An append that goes on, with n words in the first group: committed by its tail alone, or with another word.
+  module _ (u : Mem) (P N : ℕ) (a : Append) (on : a .anew ≡ false) where
+    abbrev listOf : Stores → List Change → List ℕ
+    listOf t cs = storeList W (commit u (both (allPrepared u P (free u P N) (a ∷ [])) t) (allChanges u P (free u P N) (a ∷ []) ++ cs))
+
+    append-short : (n : ℕ) (t : Stores) → AtMost (both (prepared u P (free u P N) a) t) n → (cs : List Change) → length cs ≤ 1 → length (listOf t cs) ≤ 2 * n + 24
+    append-short n t m cs l =
+        rw (one-prepared u P (free u P N) a, one-changes u P (free u P N) a, changes-on u P (free u P N) a on) (commit-short u m _ cs l)
+
+    alone-short : (n : ℕ) → AtMost (prepared u P (free u P N) a) n → length (listOf noWords []) ≤ 2 * n + 6
+    unfolding commit
+    alone-short n m =
+        rw (one-prepared u P (free u P N) a, both-none (prepared u P (free u P N) a), one-changes u P (free u P N) a, changes-on u P (free u P N) a on) (one-short m _)
 
   -- Each call, in any memory u.
   module _ (u : Mem) (P N : ℕ) where
     -- Names, in directory d.
 
-    most-entries : (d : ℕ) (es : List (List ℕ)) → length es ≤ 7 → AtMost (prepared u P N (entriesOnly d es)) (8 * length es + 1)
-    unfolding entriesOnly appended
-    most-entries d es l = most-less (most-prepared u P N (entriesOnly d es) l) (omega arith)
+    most-entries : (d : ℕ) (es : List (List ℕ)) → length es ≤ 6 → AtMost (prepared u P (free u P N) (entriesOnly false d es)) (8 * length es + 1)
+    unfolding entriesOnly
+    most-entries d es l =
+        let e = only-entries u P (free u P N) false d es in
+        most-less (most-prepared u P N (entriesOnly false d es) refl (rw e (omega arith))) (rw e (omega arith))
 
     release-short : (d : ℕ) (n : List ℕ) → length (release u P N d n) ≤ 1
     release-short d n =
         rw release-is (by-bool (lastName (namesOf u P N d) (inodeOf (namesOf u P N d) n)) (λ e. rw e (omega arith)) (λ e. rw e (omega arith)))
 
-    pub create-short : (d : ℕ) (n : List ℕ) → length (storeList W (createGroups u P N d n)) ≤ 46
-    unfolding createGroups createAppend
+    create-short : (d : ℕ) (n : List ℕ) → length (storeList W (actionGroups u P N (createAction u P N d n))) ≤ 46
+    unfolding actionGroups createAction entriesOnly
     create-short d n =
         let i = orElse (invalidInode u P N) 0 in
-        commit-short u (most-both (most-entries d _ (omega arith)) (most-both (most-word (headWord i) 0) (most-word (tailWord i) 0))) _ _ (omega arith)
+        append-short u P N _ refl 11 _ (most-both (most-entries d _ (omega arith)) (most-both (most-word (headWord i) 0) (most-word (tailWord i) 0))) _ (omega arith)
 
-    pub link-short : (d : ℕ) (a b : List ℕ) → length (storeList W (linkGroups u P N d a b)) ≤ 24
-    unfolding linkGroups linkAppend commit
-    link-short d a b = one-short (most-entries d _ (omega arith)) _
+    link-short : (d : ℕ) (a b : List ℕ) → length (storeList W (actionGroups u P N (linkAction u P N d a b))) ≤ 24
+    unfolding actionGroups linkAction entriesOnly
+    link-short d a b = alone-short u P N _ refl 9 (most-entries d _ (omega arith))
 
-    pub unlink-short : (d : ℕ) (n : List ℕ) → length (storeList W (unlinkGroups u P N d n)) ≤ 42
-    unfolding unlinkGroups unlinkAppend
-    unlink-short d n = commit-short u (most-entries d _ (omega arith)) _ _ (release-short d n)
+    most-alone : (d : ℕ) (es : List (List ℕ)) → length es ≤ 6 → AtMost (both (prepared u P (free u P N) (entriesOnly false d es)) noWords) (8 * length es + 1)
+    most-alone d es l = rw (both-none (prepared u P (free u P N) (entriesOnly false d es))) (most-entries d es l)
 
-    pub rename-short : (d : ℕ) (a b : List ℕ) → length (storeList W (renameGroups u P N d a b)) ≤ 58
-    unfolding renameGroups renameAppend storeList
+    unlink-short : (d : ℕ) (n : List ℕ) → length (storeList W (actionGroups u P N (unlinkAction u P N d n))) ≤ 42
+    unfolding actionGroups unlinkAction entriesOnly
+    unlink-short d n = append-short u P N _ refl 9 noWords (most-alone d _ (omega arith)) _ (release-short d n)
+
+    rename-short : (d : ℕ) (a b : List ℕ) → length (storeList W (actionGroups u P N (renameAction u P N d a b))) ≤ 58
+    unfolding actionGroups renameAction entriesOnly storeList
     rename-short d a b =
         by-bool (sameInode u P N d a b) (λ e. rw e (omega arith))
-        (λ e. rw e (commit-short u (most-entries d _ (omega arith)) _ _ (release-short d b)))
+        (λ e. rw e (append-short u P N _ refl 17 noWords (most-alone d _ (omega arith)) _ (release-short d b)))
 
     -- Files.
 
-    pub write-short : (k o : ℕ) (bs : List ℕ) → length bs ≤ 4096 → length (storeList W (writeGroups u P N k o bs)) ≤ 1176
-    unfolding writeGroups writeAppend commit storeList appended
+    write-short : (k o : ℕ) (bs : List ℕ) → length bs ≤ 4096 → length (storeList W (actionGroups u P N (writeAction u P N k o bs))) ≤ 1176
+    unfolding actionGroups writeAction writeAppend storeList
     write-short k o bs l =
         let a = writeAppend u P N k o bs in
-        let r = one-short (most-prepared u P N a (omega arith)) (newTail u P N a) in
+        let e = few-entries u P N a in
+        let r = alone-short u P N a refl 585 (most-less (most-prepared u P N a refl (omega arith)) (omega arith)) in
         by-eq (length bs) 0 (λ e. rw (eq-eqb _ _ e) (omega arith)) (λ e. rw (ne-eqb _ _ e) (omega arith))
 
-    size-entries : (k s : ℕ) → length (appended u P N (sizeAppend u P N k s)) ≤ 2
-    unfolding sizeAppend appended
-    size-entries k s = by-bool (cutsPage u P N k s) (λ e. rw e (omega arith)) (λ e. rw e (omega arith))
-
-    pub size-short : (k s : ℕ) → length (storeList W (sizeGroups u P N k s)) ≤ 168
-    unfolding sizeGroups sizeAppend commit storeList
+    size-short : (k s : ℕ) → length (storeList W (actionGroups u P N (sizeAction u P N k s))) ≤ 168
+    unfolding actionGroups sizeAction sizeAppend storeList
     size-short k s =
         let a = sizeAppend u P N k s in
-        let l = size-entries k s in
+        let e = few-entries u P N a in
         let b = bit-le (cutsPage u P N k s) in
-        let r = one-short (most-prepared u P N a (omega arith)) (newTail u P N a) in
-        by-bool (sameSize u P N k s) (λ e. rw e (omega arith)) (λ e. rw e (omega arith))
+        let r = alone-short u P N a refl 81 (most-less (most-prepared u P N a refl (omega arith)) (omega arith)) in
+        by-bool (eqb s (fileOf u P N k .size)) (λ e. rw e (omega arith)) (λ e. rw e (omega arith))
 
     -- Clean.
 
     -- n entries, a link in each of their pages but the last, head and tail through the journal
-    clean-list : (k n : ℕ) → length (cleanEntries u P N k) ≤ n → length (storeList W (cleanGroups u P N k)) ≤ 2 * (8 * n + (pagesFor n - 1)) + 24
-    unfolding cleanGroups cleanPages storeList
+    clean-list : (k n : ℕ) → length (cleanEntries u P N k) ≤ n
+        → length (storeList W (actionGroups u P N (cleanAction u P N k))) ≤ 2 * (8 * n + (pagesFor n - 1)) + 24
+    unfolding actionGroups cleanAction storeList commit
     clean-list k n l =
         let es = cleanEntries u P N k in
-        let ls = cleanPages u P N k in
-        let f : length ls ≤ pagesFor (length es) = few-length _ P 0 (pagesFor (length es)) in
+        let a = entriesOnly true k es in
+        let ls = freshLog u P (free u P N) a in
+        let s = rw (fresh-anew u P (free u P N) k es) at (fresh-short u P N a) in
         let r = together-short u (most-laid ls 0 es) ((headWord k, getD ls 0 0) ∷ (tailWord k, tailAfter ls 0 (length es)) ∷ []) in
-        by-bool (isEmptyLog u P N k) (λ e. rw e (omega arith)) (λ e. rw e (omega arith))
+        by-bool (eqb (u (tailWord k)) 0) (λ e. rw e (omega arith))
+        (λ e. rw (e, anew-prepared u P (free u P N) k es, anew-changes u P (free u P N) k es) (omega arith))
 
-    pub clean-file-short : (k : ℕ) → (k ≡ 0 → ⊥) → length (storeList W (cleanGroups u P N k)) ≤ 2108
-    unfolding cleanEntries
-    clean-file-short k n = clean-list k 128 (rw (ne-eqb k 0 n) (clean-file-length (fileOf u P N k)))
-
-    pub clean-names-short : length (namesOf u P N root) ≤ 224 → length (storeList W (cleanGroups u P N root)) ≤ 3670
-    unfolding cleanEntries cleanNames
-    clean-names-short l = clean-list root 224 (rw length-map l)
-
-    pub clean-short : (k : ℕ) → viewOk u P N ≡ true → length (storeList W (cleanGroups u P N k)) ≤ 3670
-    unfolding namesOk
+    clean-short : (k : ℕ) → viewOk u P N ≡ true → length (storeList W (actionGroups u P N (cleanAction u P N k))) ≤ 3670
+    unfolding namesOk cleanEntries cleanNames
     clean-short k ok =
-        by-eq k 0 (λ e. let n = view-fine u P N ok .names in rw e (clean-names-short (leb-true _ 224 (search ands))))
-        (λ e. let r = clean-file-short k e in omega arith)
+        by-eq k 0
+        (λ e.
+        let n = view-fine u P N ok .names in
+        let l : length (namesOf u P N root) ≤ 224 = leb-true _ 224 (search ands) in
+        clean-list k 224 (rw (e, length-map) l))
+        (λ e. let r = clean-list k 128 (rw (ne-eqb k 0 e) (clean-file-length (fileOf u P N k))) in omega arith)
 
-  pub recover-short : (m : Mem) (N : ℕ) → journalOk m N ≡ true → length (storeList W (recoverGroups m)) ≤ 14
-  unfolding recoverGroups storeList
-  recover-short m N ok =
+  recover-short : (u m : Mem) (P N : ℕ) → journalOk m N ≡ true → length (storeList W (actionGroups u P N (recoverAction m))) ≤ 14
+  unfolding actionGroups recoverAction allPrepared allChanges commit commitOne both storeList
+  recover-short u m P N ok =
       let f = journal-parts m N ok .few in
       let a = list-step (most-old m) (oneWord dequeueWord (m enqueueWord) ∷ []) in
       let b = list-step (most-word dequeueWord (m enqueueWord)) [] in
@@ -318,7 +367,7 @@ module _ (W : ℕ) where
 
 -- the most words that a call fills
 pub list-most : (c : Call) (P N W : ℕ) (m : Mem) → accepted m P N ≡ true → Passed (checks m P N c) → length (storeList W (groups m P N c)) ≤ mostWords c
-unfolding groups checks writeChecks accepted
+unfolding groups checks action actionChecks writeAction accepted
 list-most (create n) P N W m a p = create-short W (view m) P N root n
 list-most (link x y) P N W m a p = link-short W (view m) P N root x y
 list-most (unlink n) P N W m a p = unlink-short W (view m) P N root n
@@ -326,7 +375,7 @@ list-most (rename x y) P N W m a p = rename-short W (view m) P N root x y
 list-most (write k o bs) P N W m a p = write-short W (view m) P N k o bs (ltb-false 4096 (length bs) (p .1 .0))
 list-most (setSize k s) P N W m a p = size-short W (view m) P N k s
 list-most (clean k) P N W m a p = clean-short W (view m) P N k (search ands)
-list-most recover P N W m a p = recover-short W m N (search ands)
+list-most recover P N W m a p = recover-short W (view m) m P N (search ands)
 
 pub most-fits : (c : Call) → mostWords c ≤ listWords
 most-fits (create n) = omega arith

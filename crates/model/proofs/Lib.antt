@@ -1,4 +1,5 @@
 -- Theorems about the definitions of specs/, from the general to the third demand.
+pub mod Prelude
 pub mod Tests
 pub mod Lists
 pub mod Words

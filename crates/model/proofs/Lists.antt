@@ -1,17 +1,5 @@
 -- Laws of the bounded tests, sums and searches of specs/Lists, and of elements of lists. By induction on the bound or the list.
-use mathlib.Core.Path.{_≡_, refl, sym, _∙_, ap}
-use mathlib.Core.Logic.{_⊎_, inl, inr, ⊎-elim, ⊎-map, _↔_}
-use Prim.Native.Nat.{ℕ, zero, suc, _+_, _-_, _≤_, _<_}
-use mathlib.Core.Bool.{Bool, true, false, cond}
-use mathlib.Core.List.{List, [], _∷_, _++_, map}
-use mathlib.Core.Option.{Option, none, some}
-use native.Mathlib.Omega.{arith}
-use native.Mathlib.Nat.{add-zero}
-use native.Mathlib.Numerals.{add-one}
-use lib.ListN.{length, getD, take, drop, replicate, length-take, List·getD-append, List·getD-eq-default}
-use lib.Seq.{getD-append-add}
-use lib.Dec.{ltb, eqb}
-use borrow.Author.Tests.{eq-eqb, ne-eqb, eqb-true, eqb-false, lt-ltb, le-ltb}
+use Rattle.model.proofs.Prelude.{_≡_, refl, sym, _∙_, ap, _⊎_, inl, inr, ⊎-elim, ⊎-map, ℕ, zero, suc, _+_, _-_, _≤_, _<_, Bool, true, false, List, [], _∷_, _++_, map, some, arith, add-zero, add-one, length, getD, take, drop, replicate, List·getD-append, getD-append-add, eqb, eq-eqb, ne-eqb, eqb-true, eqb-false}
 use Rattle.model.specs.Lists.{bit, allBelow, sumBelow, valuesFrom, lowest, lowestFew, all, filter, foldl, has, count, indexOf, distinct, sameList}
 use Rattle.model.proofs.Tests.{by-bool, by-eq, by-lt, no, not-some, cond-and, cond-or, cond-not, cond-neither, same-test, bit-other, bit-same}
 
@@ -138,10 +126,6 @@ pub has-cons : (x p : ℕ) (ps : List ℕ) → has x (p ∷ ps) ≡ true → (x 
 unfolding has
 has-cons x p ps h = ⊎-map (eqb-true x p) (λ k. k) (cond-or (eqb x p) (has x ps) h)
 
-pub has-not : (x p : ℕ) (ps : List ℕ) → (x ≡ p → ⊥) → has x ps ≡ false → has x (p ∷ ps) ≡ false
-unfolding has
-has-not x p ps n h = rw (has, ne-eqb x p n) h
-
 pub has-append : (x : ℕ) (xs ys : List ℕ) → has x (xs ++ ys) ≡ true → (has x xs ≡ true) ⊎ (has x ys ≡ true)
 has-append x [] ys h = inr h
 has-append x (y ∷ xs) ys h =
@@ -245,6 +229,21 @@ count-once x (p ∷ ps) d =
     let c = distinct-cons p ps d in
     by-eq x p (λ e. let a = bit-same x p e in let b = count-none x ps (rw e (c .0)) in omega arith)
     (λ e. let a = bit-other x p e in let b = count-once x ps (c .1) in omega arith)
+
+-- consecutive numbers
+pub values-in : (p n x : ℕ) → has x (valuesFrom (λ i. i) p n) ≡ true → (p ≤ x) × (x < p + n)
+unfolding valuesFrom has
+values-in p zero x h = no h
+values-in p (suc n) x h =
+    ⊎-elim (λ e. (omega arith, omega arith)) (λ g. let r = values-in (p + 1) n x g in (omega arith, omega arith))
+    (has-cons x p (valuesFrom (λ i. i) (p + 1) n) h)
+
+pub values-distinct : (p n : ℕ) → distinct (valuesFrom (λ i. i) p n) ≡ true
+unfolding valuesFrom distinct
+values-distinct p zero = refl
+values-distinct p (suc n) =
+    by-bool (has p (valuesFrom (λ i. i) (p + 1) n)) (λ h. let r = values-in (p + 1) n p h in absurd (omega arith))
+    (λ h. rw h (values-distinct (p + 1) n))
 
 -- numbers below n, each at most once, are no more than n
 
@@ -397,9 +396,6 @@ same-true (x ∷ xs) (y ∷ ys) e =
 
 pub same-ne : (a b : List ℕ) → (a ≡ b → ⊥) → sameList a b ≡ false
 same-ne a b h = by-bool (sameList a b) (λ e. absurd (h (same-true a b e))) (λ e. e)
-
-pub same-false : (a b : List ℕ) → sameList a b ≡ false → a ≡ b → ⊥
-same-false a b e h = no (sym e ∙ rw h (same-refl b))
 
 pub same-sym : (a b : List ℕ) → sameList a b ≡ sameList b a
 same-sym a b = same-test _ _ (λ e. rw (same-true a b e) (same-refl b)) (λ e. rw (same-true b a e) (same-refl a))

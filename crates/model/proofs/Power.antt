@@ -1,11 +1,5 @@
 -- Laws of a cut: each byte, and each word, of what it leaves is the old one or the new one. By induction over the bytes.
-use Prim.Native.Nat.{ℕ, zero, suc, _+_, _*_, _/_, _≤_, _<_}
-use mathlib.Core.Path.{_≡_, refl, ap, sym, _∙_}
-use mathlib.Core.Bool.{Bool, true, false, cond}
-use mathlib.Core.List.{List, [], _∷_}
-use native.Mathlib.Omega.{arith}
-use native.Mathlib.Nat.{add-zero}
-use lib.ListN.{length, getD}
+use Rattle.model.proofs.Prelude.{ℕ, zero, suc, _+_, _*_, _/_, _≡_, refl, ap, Bool, cond, List, [], _∷_, arith, add-zero, length, getD}
 use Rattle.model.specs.Words.{word}
 use Rattle.model.specs.Power.{mixed}
 use Rattle.model.proofs.Tests.{by-bool}

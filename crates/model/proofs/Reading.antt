@@ -1,14 +1,5 @@
 -- The reading calls on an accepted volume whose journal is closed: of their checks only the last is left, and it asks what the file map says.
-use mathlib.Core.Path.{_≡_, refl, sym, _∙_, ap}
-use Prim.Native.Nat.{ℕ, _+_, _-_, _≤_, _<_, min}
-use mathlib.Core.Bool.{true, false, cond}
-use mathlib.Core.List.{List, [], _∷_, _++_}
-use mathlib.Core.Option.{Option, none, some}
-use native.Mathlib.Omega.{arith}
-use lib.ListN.{length, take, drop, length-take, length-drop}
-use lib.Seq.{ext-getD, getD-take, getD-drop}
-use lib.Dec.{eqb}
-use borrow.Author.Tests.{lt-ltb, le-ltb, le-leb, lt-leb}
+use Rattle.model.proofs.Prelude.{_≡_, refl, sym, _∙_, ap, ℕ, _+_, _-_, _≤_, _<_, min, true, false, cond, List, [], _∷_, _++_, Option, none, some, arith, length, take, drop, length-take, length-drop, ext-getD, getD-take, getD-drop, eqb, lt-ltb, le-ltb, le-leb, lt-leb}
 use Rattle.model.specs.Lists.{valuesFrom}
 use Rattle.model.specs.Words.{Mem, word}
 use Rattle.model.specs.Layout.{root, nameBytes}

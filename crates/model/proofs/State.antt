@@ -1,9 +1,10 @@
 -- What a log's entries come to: the bytes of files, lists of names, and the file map.
 pub mod Bytes
+pub mod Stretches
 pub mod Append
+pub mod Mapped
 pub mod Write
 pub mod Resize
-pub mod Mapped
 pub mod Clean
 pub mod Names
 pub mod NamesFine

@@ -1,24 +1,13 @@
 -- Every store list that a call fills is one that carry out takes and that lands as it stands: from the shape of a list of groups (Crash/Landing) and
 -- from what each call's groups store (ThirdDemand).
-use mathlib.Core.Path.{_≡_, refl, sym, _∙_, ap}
-use mathlib.Core.Logic.{_⊎_, inl, inr}
-use Prim.Native.Nat.{ℕ, zero, suc, _+_, _*_, _^_, _≤_, _<_}
-use mathlib.Core.Bool.{Bool, true, false, cond, _&&_}
-use mathlib.Core.List.{List, [], _∷_, _++_}
-use mathlib.Core.Option.{Option, none, some}
-use native.Mathlib.Omega.{arith}
-use lib.ListN.{length, drop}
-use lib.Dec.{leb, ltb}
-use borrow.Author.Tests.{le-leb, lt-ltb, not-false}
+use Rattle.model.proofs.Prelude.{_≡_, refl, ℕ, zero, suc, _+_, _*_, _^_, _≤_, true, List, [], _∷_, _++_, Option, none, some, arith, length, drop, le-leb, lt-ltb}
 use Rattle.model.specs.Words.{word}
 use Rattle.model.specs.Stores.{Stores, fence, pairOf, listed, storeList}
-use Rattle.model.specs.Power.{group}
-use Rattle.model.specs.Answer.{Answer, refused, done, Checks, firstRefusal}
+use Rattle.model.specs.Answer.{refused, done, Checks, firstRefusal}
 use Rattle.model.specs.Calls.{groups}
 use Rattle.model.specs.Public.{isVolume, isAccepted, volumeChecks, callChecks, fills}
-use Rattle.model.specs.FileMap.{Call}
 use Rattle.model.specs.Accept.{accepted}
-use Rattle.model.specs.Promises.{ascending, storable, NoneOutside, ListFine, ListsFine}
+use Rattle.model.specs.Promises.{ascending, storable, NoneOutside, ListsFine}
 use Rattle.model.proofs.Tests.{by-bool, ands}
 use Rattle.model.proofs.Words.{word-lt}
 use Rattle.model.proofs.Crash.Stores.{Each}

@@ -1,12 +1,5 @@
 -- Laws of tests: case splits by a Boolean, and the parts of a test that is made of others. Each is a split on the tests' values.
-use mathlib.Core.Path.{_≡_, refl, sym, _∙_}
-use Prim.Native.Nat.{ℕ, _≤_, _<_}
-use mathlib.Core.Bool.{Bool, true, false, cond, _&&_, _||_, not}
-use mathlib.Core.Logic.{_⊎_, inl, inr}
-use mathlib.Core.Option.{Option, none, some}
-use native.Mathlib.Omega.{arith}
-use lib.Dec.{leb, ltb, eqb}
-use borrow.Author.Tests.{eqb-true, eqb-false, ltb-true, ltb-false, lt-ltb, le-ltb, le-leb, lt-leb, eq-eqb, ne-eqb}
+use Rattle.model.proofs.Prelude.{_≡_, refl, sym, _∙_, ℕ, _≤_, _<_, Bool, true, false, cond, _&&_, _||_, _⊎_, inl, inr, Option, none, some, arith, leb, ltb, eqb, eqb-true, eqb-false, ltb-true, ltb-false, lt-ltb, le-ltb, le-leb, lt-leb, eq-eqb, ne-eqb}
 use Rattle.model.specs.Lists.{bit, isSome}
 
 module _ {X : Type 0} where
@@ -48,10 +41,6 @@ and-right true b e = e
 and-right false b e = no e
 
 pub ruleset ands = (and-left, and-right)
-
-pub or-cases : (a b : Bool) → a || b ≡ true → (a ≡ true) ⊎ (b ≡ true)
-or-cases true b e = inl refl
-or-cases false b e = inr e
 
 pub or-false : (a b : Bool) → a || b ≡ false → (a ≡ false) × (b ≡ false)
 or-false true b e = no (sym e)

@@ -1,6 +1,6 @@
 -- The third demand: every history of calls and power cuts, from any accepted volume. Each call does what it owes (Calls), dead words are framed
 -- (Frame), and the crash library (Crash) does the rest.
-use Prim.Native.Nat.{ℕ}
+use Rattle.model.proofs.Prelude.{ℕ}
 use Rattle.model.specs.Words.{Mem}
 use Rattle.model.specs.FileMap.{Call}
 use Rattle.model.specs.Claim.{ThirdDemand}

@@ -1,15 +1,6 @@
 -- Laws of words: a stored word reads back, other words stay, a part's words are the whole's. By induction on the count of bytes.
-use Prim.Native.Nat.{ℕ, zero, suc, _+_, _*_, _/_, _%_, _^_, _≤_, _<_}
-use mathlib.Core.Path.{_≡_, refl, ap, sym, _∙_}
-use mathlib.Core.Bool.{cond}
-use mathlib.Core.List.{List, _++_}
-use native.Mathlib.Omega.{arith}
-use native.Mathlib.Nat.{mod-eq-of-lt, add-zero, add-assoc, mul-add, div-one, div-div-eq-div-mul, pow-succ', one-le-pow}
-use lib.ListN.{length, getD, set, drop, length-set, List·getD-append, List·getD-eq-default}
+use Rattle.model.proofs.Prelude.{ℕ, zero, suc, _+_, _*_, _/_, _%_, _^_, _≤_, _<_, _≡_, refl, ap, sym, _∙_, cond, List, _++_, arith, mod-eq-of-lt, add-zero, add-assoc, mul-add, div-one, div-div-eq-div-mul, pow-succ', one-le-pow, length, getD, set, drop, length-set, List·getD-append, List·getD-eq-default, getD-set-same, getD-set-other, getD-drop, getD-append-add, set-out, eqb, eq-eqb, ne-eqb}
 use lib.Arith.{mod-mul}
-use lib.Seq.{getD-set-same, getD-set-other, getD-drop, getD-append-add, set-out}
-use lib.Dec.{eqb}
-use borrow.Author.Tests.{eq-eqb, ne-eqb}
 use Rattle.model.specs.Words.{leFrom, word, putLe, putWord, byteAt}
 use Rattle.model.proofs.Tests.{by-eq, by-lt}
 

@@ -1,7 +1,6 @@
 -- Document 01, "An accepted volume". P, N and the journal's own words are read as they stand, all else from the view.
 use Prim.Native.Nat.{ℕ, _+_, _-_, _*_, _/_, _%_}
 use mathlib.Core.Bool.{Bool, cond, _&&_, _||_, not}
-use mathlib.Core.List.{List}
 use lib.ListN.{length}
 use lib.Dec.{leb, ltb, eqb}
 use Rattle.model.specs.Lists.{bit, allBelow, sumBelow, all, has, count, isSome}
@@ -19,7 +18,7 @@ isValid u k = eqb (u (validWord k)) 1
 
 -- a valid inode other than the directory
 abbrev pub isFile : Mem → ℕ → Bool
-isFile u k = not (isDirectory k) && isValid u k
+isFile u k = not (isDirectory u k) && isValid u k
 
 -- how often page p, not 0, is a data page of a file
 unfoldable pub mappedTo : File → ℕ → ℕ
@@ -28,7 +27,7 @@ mappedTo f p = sumBelow filePages (λ i. bit (eqb (f .page i) p))
 -- how often page p serves inode k: "log pages and mapped pages of valid inodes"
 unfoldable pub usesBy : Mem → ℕ → ℕ → ℕ → ℕ → ℕ
 usesBy u P N p k =
-    cond (isValid u k) (count p (pages u P N k) + cond (isDirectory k) 0 (mappedTo (fileOf u P N k) p)) 0
+    cond (isValid u k) (count p (pages u P N k) + cond (isDirectory u k) 0 (mappedTo (fileOf u P N k) p)) 0
 
 -- how often page p serves
 unfoldable pub uses : Mem → ℕ → ℕ → ℕ → ℕ
@@ -45,14 +44,15 @@ freeCount u P N = sumBelow P (λ p. bit (free u P N p))
 
 -- "valid words [are 0 or 1], inode 0 [is valid]"
 unfoldable pub validOk : Mem → ℕ → Bool
-validOk u k = cond (isDirectory k) (isValid u k) (leb (u (validWord k)) 1)
+validOk u k = cond (isDirectory u k) (isValid u k) (leb (u (validWord k)) 1)
 
 -- "tails [..] are as said above"; "Every log walk ends, inside the log and data pages."
--- "entry kinds are as said above, and the bytes after a name are 0", and the limits of sizes, writes, names and added inodes, entry by entry
+-- "entry kinds are as said above, and the bytes after a name are 0", and the limits of sizes, writes, names and added inodes, entry by
+-- entry
 unfoldable pub logOk : Mem → ℕ → ℕ → ℕ → Bool
 logOk u P N k =
     isSome (logPages u P N k)
-    && cond (isDirectory k) (all (nameEntryOk N) (entries u P N k)) (all (fileEntryOk P N) (entries u P N k))
+    && cond (isDirectory u k) (all (nameEntryOk N) (entries u P N k)) (all (fileEntryOk P N) (entries u P N k))
 
 -- "In the end at most 224 names stand, each names a valid file, and each valid file has a name."
 unfoldable pub namesOk : Mem → ℕ → Names → Bool
@@ -74,7 +74,7 @@ endOk u f =
 -- What is asked of inode k. "Heads and tails of invalid inodes are not read."
 unfoldable pub inodeOk : Mem → ℕ → ℕ → ℕ → Bool
 inodeOk u P N k =
-    validOk u k && (not (isValid u k) || (logOk u P N k && (isDirectory k || endOk u (fileOf u P N k))))
+    validOk u k && (not (isValid u k) || (logOk u P N k && (isDirectory u k || endOk u (fileOf u P N k))))
 
 unfoldable pub viewOk : Mem → ℕ → ℕ → Bool
 viewOk u P N = allBelow N (inodeOk u P N) && namesOk u N (namesOf u P N root) && allBelow P (servesOnce u P N)

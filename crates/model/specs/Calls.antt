@@ -1,27 +1,29 @@
 -- What the changing calls fill, and when they refuse with 5 to 12. Document 01, "The store list" and "The calls".
 -- Everything is read from the view u of a volume of P pages and N inodes.
-use Prim.Native.Nat.{ℕ, zero, suc, _+_, _-_, _*_, _/_, _%_, max}
-use mathlib.Core.Bool.{Bool, cond, _&&_, _||_, not}
+use Prim.Native.Nat.{ℕ, _+_, _-_, _*_, _/_, _%_, max}
+use mathlib.Core.Bool.{Bool, true, false, cond, _&&_, _||_, not}
 use mathlib.Core.List.{List, [], _∷_, _++_, map}
 use mathlib.Core.Option.{Option, none, some}
 use lib.ListN.{length, getD}
 use lib.Dec.{leb, ltb, eqb}
-use Rattle.model.specs.Lists.{bit, allBelow, lowest, lowestFew, has, count, indexOf, isSome, orElse}
+use Rattle.model.specs.Lists.{bit, allBelow, valuesFrom, lowest, lowestFew, has, count, indexOf, isSome, orElse}
+use Rattle.model.specs.Stretches.{Stretch, stretches}
 use Rattle.model.specs.Words.{Mem, leFrom}
-use Rattle.model.specs.Layout.{validWord, headWord, tailWord, root, isDirectory, pageEntries, filePages, fileBytes, writeBytes, mostNames}
+use Rattle.model.specs.Layout.{validWord, headWord, tailWord, root, isDirectory, pageEntries, filePages, fileBytes}
+use Rattle.model.specs.Layout.{writeBytes, mostNames}
 use Rattle.model.specs.Journal.{dequeueWord, enqueueWord, positionCount, targetWord, oldWord, nextPosition, openTargets, isOpen, view}
 use Rattle.model.specs.Entry.{nameOk, writeWords, sizeWords, addWords, removeWords}
 use Rattle.model.specs.Log.{tailSlots}
 use Rattle.model.specs.State.{File, fileOf, fileByte, Names, namesOf, inodeOf, inodes}
 use Rattle.model.specs.Accept.{isValid, isFile, free}
 use Rattle.model.specs.FileMap.{Call, create, link, unlink, rename, write, setSize, clean, recover}
-use Rattle.model.specs.Stores.{Stores, oneWord, run, firstOf, both, onlyIf}
+use Rattle.model.specs.Stores.{Stores, oneWord, noWords, firstOf, both, onlyIf}
 use Rattle.model.specs.Answer.{Checks, badName, notThere, taken, longWrite, pastTheEnd, noInode, directoryFull, noSpace}
 
 -- Writing a log.
 
--- Entries es, eight words each, laid into the pages ps from slot i of the first page on, seven slots to a page, and a link in every page but the last.
--- "A link is the footer of the page left behind, also inside the log that clean writes."
+-- Entries es, eight words each, laid into the pages ps from slot i of the first page on, seven slots to a page, and a link in every page
+-- but the last. "A link is the footer of the page left behind, also inside the log that clean writes."
 unfoldable pub layEntries : List ℕ → ℕ → List (List ℕ) → Stores
 layEntries ps i es w =
     let j = indexOf (w / 64) ps in
@@ -45,9 +47,15 @@ pagesFor n = (n + 6) / pageEntries
 unfoldable pub tailPages : Mem → ℕ → List ℕ
 tailPages u k = cond (eqb (u (tailWord k)) 0) [] (u (tailWord k) / 512 ∷ [])
 
--- how many fresh log pages n further entries of inode k's log take
-unfoldable pub pagesNeeded : Mem → ℕ → ℕ → ℕ
-pagesNeeded u k n = pagesFor (tailSlots u k + n) - length (tailPages u k)
+-- The pages ps, all 64 words each, the j-th word in all being f j.
+unfoldable pub layPages : List ℕ → (ℕ → ℕ) → Stores
+layPages ps f w =
+    let j = indexOf (w / 64) ps in
+    cond (ltb j (length ps)) (some (f (64 * j + w % 64))) none
+
+-- one kind 1 entry for each stretch of file pages on data pages, with size z
+unfoldable pub stretchEntries : ℕ → List Stretch → List (List ℕ)
+stretchEntries z ss = map (λ (s : Stretch). writeWords (s .first) (s .page) (s .count) z) ss
 
 -- Committing.
 
@@ -69,31 +77,137 @@ unfoldable pub targets : List Change → Stores
 targets [] w = none
 targets (c ∷ cs) w = firstOf (oneWord (c .0) (c .1) w) (targets cs w)
 
--- "first group the same preparation plus the journal pairs at enqueue; then enqueue; then the two targets; then dequeue, set equal to enqueue"
--- for any number of targets
+-- "first group the same preparation plus the journal pairs at enqueue; then enqueue; then the two targets; then dequeue, set equal to
+-- enqueue" for any number of targets
 unfoldable pub commitTogether : Mem → Stores → List Change → List Stores
 commitTogether u s cs =
     let e = (u enqueueWord + length cs) % positionCount in
-    both (journalPairs u (u enqueueWord) cs) s ∷ oneWord enqueueWord e ∷ targets cs ∷ oneWord dequeueWord e ∷ []
+    both s (journalPairs u (u enqueueWord) cs) ∷ oneWord enqueueWord e ∷ targets cs ∷ oneWord dequeueWord e ∷ []
 
--- one word by itself, or with others through the journal
-unfoldable pub commit : Mem → Stores → Change → List Change → List Stores
-commit u s c [] = commitOne s c
-commit u s c (d ∷ cs) = commitTogether u s (c ∷ d ∷ cs)
+-- one word by itself, several through the journal
+unfoldable pub commit : Mem → Stores → List Change → List Stores
+commit u s [] = []
+commit u s (c ∷ []) = commitOne s c
+commit u s (c ∷ d ∷ cs) = commitTogether u s (c ∷ d ∷ cs)
+
+-- Taking pages. f says which pages may be taken: free ones that the call has not taken yet. "Pages let go by a call are not free to it."
+
+-- f but for the pages ps
+unfoldable pub besides : (ℕ → Bool) → List ℕ → ℕ → Bool
+besides f ps p = f p && not (has p ps)
+
+-- the first page of the lowest run of n pages, of P
+unfoldable pub lowestRun : (ℕ → Bool) → ℕ → ℕ → Option ℕ
+lowestRun f P n = lowest (λ p. allBelow n (λ i. f (p + i))) P 0
+
+-- n pages from a page on, if there is one
+abbrev pub runFrom : ℕ → Option ℕ → List ℕ
+runFrom n none = []
+runFrom n (some p) = valuesFrom (λ i. i) p n
 
 -- Appending to one log.
 
--- What is appended: to inode `log`'s log, `dataPages` fresh data pages of which the j-th word is `words j`, and the entries, where the data starts at a page.
--- `dataPages` may be 0: then the page counts for nothing.
+-- What is appended to inode `log`'s log, or is the whole of it where the log is written `anew`: `entries`, and then fresh data, `count`
+-- file pages from `file` on, of which the j-th word is `words j`, with the file's `size`. `count` may be 0: then there are the entries
+-- alone.
 pub record Append : Type 0 where
   pub log : ℕ
-  pub dataPages : ℕ
+  pub anew : Bool
+  pub entries : List (List ℕ)
+  pub file : ℕ
+  pub count : ℕ
   pub words : ℕ → ℕ
-  pub entriesAt : ℕ → List (List ℕ)
+  pub size : ℕ
 
 -- entries and no data
-unfoldable pub entriesOnly : ℕ → List (List ℕ) → Append
-entriesOnly k es = record { log = k; dataPages = 0; words = λ j. 0; entriesAt = λ d. es }
+unfoldable pub entriesOnly : Bool → ℕ → List (List ℕ) → Append
+entriesOnly b k es = record { log = k; anew = b; entries = es; file = 0; count = 0; words = λ j. 0; size = 0 }
+
+module _ (u : Mem) (P : ℕ) (f : ℕ → Bool) (a : Append) where
+  -- "Data goes to the lowest run of enough free pages"; no pages where there is no such run
+  unfoldable pub dataPages : List ℕ
+  dataPages = runFrom (a .count) (lowestRun f P (a .count))
+
+  -- the entries, and "one write entry" for each longest stretch of the data
+  unfoldable pub appended : List (List ℕ)
+  appended = a .entries ++ stretchEntries (a .size) (stretches (λ i. getD dataPages (i - a .file) 0) (a .count) (a .file))
+
+  -- the page on which the log goes on, if it has one, and how many entries that page holds
+  unfoldable pub oldPages : List ℕ
+  oldPages = cond (a .anew) [] (tailPages u (a .log))
+
+  unfoldable pub oldSlots : ℕ
+  oldSlots = cond (a .anew) 0 (tailSlots u (a .log))
+
+  -- how many fresh log pages the entries take
+  unfoldable pub freshPages : ℕ
+  freshPages = pagesFor (oldSlots + length appended) - length oldPages
+
+  -- "then a log page to the lowest free page left"; "Clean writes a new log in the lowest free pages, ascending."
+  unfoldable pub freshLog : List ℕ
+  freshLog = lowestFew (besides f dataPages) P 0 freshPages
+
+  -- 12: "for the data no run long enough, or no page left for the log where it needs one (clean: fewer free than needed)"
+  unfoldable pub noRoom : Bool
+  noRoom = ltb (length dataPages) (a .count) || ltb (length freshLog) freshPages
+
+  -- "first group the data pages (all 64 words each), the entries (8 words each), a new log page's link, and the head if the tail was 0"
+  unfoldable pub prepared : Stores
+  prepared =
+      both (layEntries (oldPages ++ freshLog) oldSlots appended)
+      (both (onlyIf (not (a .anew) && eqb (u (tailWord (a .log))) 0) (oneWord (headWord (a .log)) (getD freshLog 0 0)))
+      (layPages dataPages (a .words)))
+
+  -- "second group the tail"; of a log written anew "head, then tail"
+  unfoldable pub newTail : Change
+  newTail = (tailWord (a .log), tailAfter (oldPages ++ freshLog) oldSlots (length appended))
+
+  unfoldable pub ownChanges : List Change
+  ownChanges = cond (a .anew) ((headWord (a .log), getD freshLog 0 0) ∷ newTail ∷ []) (newTail ∷ [])
+
+  -- what may be taken afterwards
+  unfoldable pub pagesLeft : ℕ → Bool
+  pagesLeft = besides (besides f dataPages) freshLog
+
+-- Several appends of one call, in order.
+module _ (u : Mem) (P : ℕ) where
+  unfoldable pub lacksRoom : (ℕ → Bool) → List Append → Bool
+  lacksRoom f [] = false
+  lacksRoom f (a ∷ more) = let r = lacksRoom (pagesLeft u P f a) more in noRoom u P f a || r
+
+  unfoldable pub allPrepared : (ℕ → Bool) → List Append → Stores
+  allPrepared f [] = noWords
+  allPrepared f (a ∷ more) = both (prepared u P f a) (allPrepared (pagesLeft u P f a) more)
+
+  unfoldable pub allChanges : (ℕ → Bool) → List Append → List Change
+  allChanges f [] = []
+  allChanges f (a ∷ more) = ownChanges u P f a ++ allChanges (pagesLeft u P f a) more
+
+-- What a call does: the refusals that always apply; whether there is nothing to change; the refusals that apply only where something
+-- changes; what is appended; further stores of the first group; further words to commit, after those of the appends.
+pub record Action : Type 0 where
+  pub always : Checks
+  pub unchanged : Bool
+  pub changing : Checks
+  pub appends : List Append
+  pub further : Stores
+  pub changes : List Change
+
+module _ (u : Mem) (P N : ℕ) where
+  -- 12, and in its place what else depends on the pages that a call takes
+  unfoldable pub roomChecks : List Append → Checks
+  roomChecks xs = (lacksRoom u P (free u P N) xs, noSpace) ∷ []
+
+  unfoldable pub actionChecks : Action → Checks
+  actionChecks a = a .always ++ cond (a .unchanged) [] (a .changing ++ roomChecks (a .appends))
+
+  -- "A call with nothing to change fills 0 words."
+  unfoldable pub actionGroups : Action → List Stores
+  actionGroups a =
+      let s = both (allPrepared u P (free u P N) (a .appends)) (a .further) in
+      let cs = allChanges u P (free u P N) (a .appends) ++ a .changes in
+      let gs = commit u s cs in
+      cond (a .unchanged) [] gs
 
 -- how many file pages there are from the one that holds byte o up to the one that holds byte e − 1
 abbrev pub pagesCovered : ℕ → ℕ → ℕ
@@ -101,42 +215,6 @@ pagesCovered o e = (e - 1) / 512 + 1 - o / 512
 
 -- Below, d is the inode of the directory in which names are read and changed.
 module _ (u : Mem) (P N : ℕ) where
-  -- "Data goes to the lowest run of enough free pages": the first page of the lowest run of n. "Pages let go by a call are not free to it."
-  unfoldable pub lowestRun : ℕ → Option ℕ
-  lowestRun n = lowest (λ p. allBelow n (λ i. free u P N (p + i))) P 0
-
-  -- "then a log page to the lowest free page left": n log pages, c pages from d on being taken for data
-  unfoldable pub logPagesBeside : ℕ → ℕ → ℕ → List ℕ
-  logPagesBeside d c n = lowestFew (λ p. free u P N p && not (leb d p && ltb p (d + c))) P 0 n
-
-  module _ (a : Append) where
-    unfoldable pub dataStart : ℕ
-    dataStart = orElse (lowestRun (a .dataPages)) 0
-
-    unfoldable pub appended : List (List ℕ)
-    appended = a .entriesAt dataStart
-
-    unfoldable pub freshPages : ℕ
-    freshPages = pagesNeeded u (a .log) (length appended)
-
-    unfoldable pub freshLog : List ℕ
-    freshLog = logPagesBeside dataStart (a .dataPages) freshPages
-
-    -- 12: "for the data no run long enough, or no page left for the log where it needs one"
-    unfoldable pub noRoom : Bool
-    noRoom = not (isSome (lowestRun (a .dataPages))) || ltb (length freshLog) freshPages
-
-    -- "first group the data pages (all 64 words each), the entries (8 words each), a new log page's link, and the head if the tail was 0"
-    unfoldable pub prepared : Stores
-    prepared =
-        both (run (64 * dataStart) (64 * a .dataPages) (a .words))
-        (both (layEntries (tailPages u (a .log) ++ freshLog) (tailSlots u (a .log)) appended)
-        (onlyIf (eqb (u (tailWord (a .log))) 0) (oneWord (headWord (a .log)) (getD freshLog 0 0))))
-
-    -- "second group the tail"
-    unfoldable pub newTail : Change
-    newTail = (tailWord (a .log), tailAfter (tailPages u (a .log) ++ freshLog) (tailSlots u (a .log)) (length appended))
-
   -- Names.
 
   -- 6, 7, 11
@@ -146,7 +224,8 @@ module _ (u : Mem) (P N : ℕ) where
   unfoldable pub isFull : ℕ → Bool
   isFull d = leb mostNames (length (namesOf u P N d))
 
-  -- "Unlinking the last name, and a rename that takes away a file's last name, journal [..] that valid word": 0, where name n is its inode's only name
+  -- "Unlinking the last name, and a rename that takes away a file's last name, journal [..] that valid word": 0, where name n is its
+  -- inode's only name
   unfoldable pub release : ℕ → List ℕ → List Change
   release d n =
       let j = inodeOf (namesOf u P N d) n in
@@ -156,58 +235,57 @@ module _ (u : Mem) (P N : ℕ) where
   unfoldable pub invalidInode : Option ℕ
   invalidInode = lowest (λ k. not (isValid u k)) (N - 1) 1
 
-  unfoldable pub createAppend : ℕ → List ℕ → Append
-  createAppend d n = entriesOnly d (addWords (orElse invalidInode 0) n ∷ [])
-
-  unfoldable pub createChecks : ℕ → List ℕ → Checks
-  createChecks d n =
-      (not (nameOk n), badName) ∷ (stands d n, taken) ∷ (not (isSome invalidInode), noInode) ∷ (isFull d, directoryFull)
-      ∷ (noRoom (createAppend d n), noSpace) ∷ []
-
-  -- "Create journals the directory's tail, then the inode's valid word, and in its first group also stores 0 in the new inode's head and tail."
-  unfoldable pub createGroups : ℕ → List ℕ → List Stores
-  createGroups d n =
+  -- "Create journals the directory's tail, then the inode's valid word, and in its first group also stores 0 in the new inode's head and
+  -- tail."
+  unfoldable pub createAction : ℕ → List ℕ → Action
+  createAction d n =
       let i = orElse invalidInode 0 in
-      commit u (both (prepared (createAppend d n)) (both (oneWord (headWord i) 0) (oneWord (tailWord i) 0)))
-      (newTail (createAppend d n)) ((validWord i, 1) ∷ [])
+      record {
+        always = (not (nameOk n), badName) ∷ (stands d n, taken) ∷ (not (isSome invalidInode), noInode) ∷ (isFull d, directoryFull) ∷ [];
+        unchanged = false;
+        changing = [];
+        appends = entriesOnly false d (addWords i n ∷ []) ∷ [];
+        further = both (oneWord (headWord i) 0) (oneWord (tailWord i) 0);
+        changes = (validWord i, 1) ∷ [];
+      }
 
-  unfoldable pub linkAppend : ℕ → List ℕ → List ℕ → Append
-  linkAppend d a b = entriesOnly d (addWords (inodeOf (namesOf u P N d) a) b ∷ [])
+  unfoldable pub linkAction : ℕ → List ℕ → List ℕ → Action
+  linkAction d a b =
+      record {
+        always = (not (nameOk a && nameOk b), badName) ∷ (not (stands d a), notThere) ∷ (stands d b, taken)
+            ∷ (isFull d, directoryFull) ∷ [];
+        unchanged = false;
+        changing = [];
+        appends = entriesOnly false d (addWords (inodeOf (namesOf u P N d) a) b ∷ []) ∷ [];
+        further = noWords;
+        changes = [];
+      }
 
-  unfoldable pub linkChecks : ℕ → List ℕ → List ℕ → Checks
-  linkChecks d a b =
-      (not (nameOk a && nameOk b), badName) ∷ (not (stands d a), notThere) ∷ (stands d b, taken) ∷ (isFull d, directoryFull)
-      ∷ (noRoom (linkAppend d a b), noSpace) ∷ []
-
-  unfoldable pub linkGroups : ℕ → List ℕ → List ℕ → List Stores
-  linkGroups d a b = commit u (prepared (linkAppend d a b)) (newTail (linkAppend d a b)) []
-
-  unfoldable pub unlinkAppend : ℕ → List ℕ → Append
-  unlinkAppend d n = entriesOnly d (removeWords n ∷ [])
-
-  unfoldable pub unlinkChecks : ℕ → List ℕ → Checks
-  unlinkChecks d n =
-      (not (nameOk n), badName) ∷ (not (stands d n), notThere) ∷ (noRoom (unlinkAppend d n), noSpace) ∷ []
-
-  unfoldable pub unlinkGroups : ℕ → List ℕ → List Stores
-  unlinkGroups d n = commit u (prepared (unlinkAppend d n)) (newTail (unlinkAppend d n)) (release d n)
+  unfoldable pub unlinkAction : ℕ → List ℕ → Action
+  unlinkAction d n =
+      record {
+        always = (not (nameOk n), badName) ∷ (not (stands d n), notThere) ∷ [];
+        unchanged = false;
+        changing = [];
+        appends = entriesOnly false d (removeWords n ∷ []) ∷ [];
+        further = noWords;
+        changes = release d n;
+      }
 
   -- "Rename appends remove, then add. If both names lead to one inode, nothing changes."
   unfoldable pub sameInode : ℕ → List ℕ → List ℕ → Bool
   sameInode d a b = eqb (inodeOf (namesOf u P N d) a) (inodeOf (namesOf u P N d) b)
 
-  unfoldable pub renameAppend : ℕ → List ℕ → List ℕ → Append
-  renameAppend d a b = entriesOnly d (removeWords a ∷ addWords (inodeOf (namesOf u P N d) a) b ∷ [])
-
-  unfoldable pub renameChecks : ℕ → List ℕ → List ℕ → Checks
-  renameChecks d a b =
-      (not (nameOk a && nameOk b), badName) ∷ (not (stands d a), notThere)
-      ∷ (not (sameInode d a b) && noRoom (renameAppend d a b), noSpace) ∷ []
-
-  unfoldable pub renameGroups : ℕ → List ℕ → List ℕ → List Stores
-  renameGroups d a b =
-      let gs = commit u (prepared (renameAppend d a b)) (newTail (renameAppend d a b)) (release d b) in
-      cond (sameInode d a b) [] gs
+  unfoldable pub renameAction : ℕ → List ℕ → List ℕ → Action
+  renameAction d a b =
+      record {
+        always = (not (nameOk a && nameOk b), badName) ∷ (not (stands d a), notThere) ∷ [];
+        unchanged = sameInode d a b;
+        changing = [];
+        appends = entriesOnly false d (removeWords a ∷ addWords (inodeOf (namesOf u P N d) a) b ∷ []) ∷ [];
+        further = noWords;
+        changes = release d b;
+      }
 
   -- Files.
 
@@ -223,25 +301,27 @@ module _ (u : Mem) (P N : ℕ) where
   -- "Size becomes the larger of old size and end."
   unfoldable pub writeAppend : ℕ → ℕ → List ℕ → Append
   writeAppend k o bs =
-      let e = o + length bs in
-      let c = pagesCovered o e in
       record {
         log = k;
-        dataPages = c;
+        anew = false;
+        entries = [];
+        file = o / 512;
+        count = pagesCovered o (o + length bs);
         words = λ j. leFrom (writtenByte k o bs) (512 * (o / 512) + 8 * j) 8;
-        entriesAt = λ d. writeWords (o / 512) d c (max (fileOf u P N k .size) e) ∷ [];
+        size = max (fileOf u P N k .size) (o + length bs);
       }
 
   -- "0 bytes changes nothing, after the checks."
-  unfoldable pub writeChecks : ℕ → ℕ → List ℕ → Checks
-  writeChecks k o bs =
-      (noFile k, notThere) ∷ (ltb writeBytes (length bs), longWrite) ∷ (ltb fileBytes (o + length bs), pastTheEnd)
-      ∷ (not (eqb (length bs) 0) && noRoom (writeAppend k o bs), noSpace) ∷ []
-
-  unfoldable pub writeGroups : ℕ → ℕ → List ℕ → List Stores
-  writeGroups k o bs =
-      let gs = commit u (prepared (writeAppend k o bs)) (newTail (writeAppend k o bs)) [] in
-      cond (eqb (length bs) 0) [] gs
+  unfoldable pub writeAction : ℕ → ℕ → List ℕ → Action
+  writeAction k o bs =
+      record {
+        always = (noFile k, notThere) ∷ (ltb writeBytes (length bs), longWrite) ∷ (ltb fileBytes (o + length bs), pastTheEnd) ∷ [];
+        unchanged = eqb (length bs) 0;
+        changing = [];
+        appends = writeAppend k o bs ∷ [];
+        further = noWords;
+        changes = [];
+      }
 
   -- "A smaller size inside a mapped page, not at its start"
   unfoldable pub cutsPage : ℕ → ℕ → Bool
@@ -258,43 +338,33 @@ module _ (u : Mem) (P N : ℕ) where
   sizeAppend k s =
       record {
         log = k;
-        dataPages = bit (cutsPage k s);
+        anew = false;
+        entries = sizeWords s ∷ [];
+        file = s / 512;
+        count = bit (cutsPage k s);
         words = λ j. leFrom (keptByte k s) (512 * (s / 512) + 8 * j) 8;
-        entriesAt = λ d. sizeWords s ∷ cond (cutsPage k s) (writeWords (s / 512) d 1 s ∷ []) [];
+        size = s;
       }
 
   -- "Set size: equal size changes nothing."
-  unfoldable pub sameSize : ℕ → ℕ → Bool
-  sameSize k s = eqb s (fileOf u P N k .size)
-
-  unfoldable pub sizeChecks : ℕ → ℕ → Checks
-  sizeChecks k s =
-      (noFile k, notThere) ∷ (ltb fileBytes s, pastTheEnd) ∷ (not (sameSize k s) && noRoom (sizeAppend k s), noSpace) ∷ []
-
-  unfoldable pub sizeGroups : ℕ → ℕ → List Stores
-  sizeGroups k s =
-      let gs = commit u (prepared (sizeAppend k s)) (newTail (sizeAppend k s)) [] in
-      cond (sameSize k s) [] gs
+  unfoldable pub sizeAction : ℕ → ℕ → Action
+  sizeAction k s =
+      record {
+        always = (noFile k, notThere) ∷ (ltb fileBytes s, pastTheEnd) ∷ [];
+        unchanged = eqb s (fileOf u P N k .size);
+        changing = [];
+        appends = sizeAppend k s ∷ [];
+        further = noWords;
+        changes = [];
+      }
 
 -- Cleaning.
 
--- the entry of a stretch of c pages from file page a and data page d on, with size z; none where c is 0
-unfoldable pub stretchEntry : ℕ → ℕ → ℕ → ℕ → List (List ℕ)
-stretchEntry z a d c = cond (eqb c 0) [] (writeWords a d c z ∷ [])
-
--- "one kind 1 entry for each longest stretch of consecutive file pages on consecutive data pages, ascending, with the final size":
--- n file pages from i on are still to be seen, and a stretch of c pages (0: none) from file page a and data page d on reaches to i
-unfoldable pub stretches : File → ℕ → ℕ → ℕ → ℕ → ℕ → List (List ℕ)
-stretches f zero i a d c = stretchEntry (f .size) a d c
-stretches f (suc n) i a d c =
-    let longer = stretches f n (i + 1) a d (c + 1) in
-    let anew = stretchEntry (f .size) a d c ++ stretches f n (i + 1) i (f .page i) (bit (not (eqb (f .page i) 0))) in
-    cond (not (eqb (f .page i) 0) && not (eqb c 0) && eqb (f .page i) (d + c)) longer anew
-
+-- "one kind 1 entry for each longest stretch of consecutive file pages on consecutive data pages, ascending, with the final size"
 -- "with no mapped page, one kind 2 if the size is not 0"
 unfoldable pub cleanFile : File → List (List ℕ)
 cleanFile f =
-    let ws = stretches f filePages 0 0 0 0 in
+    let ws = stretchEntries (f .size) (stretches (f .page) filePages 0) in
     cond (eqb (length ws) 0) (cond (eqb (f .size) 0) [] (sizeWords (f .size) ∷ [])) ws
 
 -- "The directory gets one add for each name, in list order."
@@ -303,29 +373,19 @@ cleanNames ns = map (λ (p : List ℕ × ℕ). addWords (p .1) (p .0)) ns
 
 module _ (u : Mem) (P N : ℕ) where
   unfoldable pub cleanEntries : ℕ → List (List ℕ)
-  cleanEntries k = cond (isDirectory k) (cleanNames (namesOf u P N k)) (cleanFile (fileOf u P N k))
+  cleanEntries k = cond (isDirectory u k) (cleanNames (namesOf u P N k)) (cleanFile (fileOf u P N k))
 
-  -- "Clean writes a new log in the lowest free pages, ascending."
-  unfoldable pub cleanPages : ℕ → List ℕ
-  cleanPages k = lowestFew (free u P N) P 0 (pagesFor (length (cleanEntries k)))
-
-  -- "A log whose tail is 0 already changes nothing."
-  unfoldable pub isEmptyLog : ℕ → Bool
-  isEmptyLog k = eqb (u (tailWord k)) 0
-
-  -- 6 (inode 0 is allowed), and 12: "clean: fewer free than needed"
-  unfoldable pub cleanChecks : ℕ → Checks
-  cleanChecks k =
-      (leb N k || not (isValid u k), notThere)
-      ∷ (not (isEmptyLog k) && ltb (length (cleanPages k)) (pagesFor (length (cleanEntries k))), noSpace) ∷ []
-
-  -- "Clean journals head, then tail." "No entries: head and tail 0."
-  unfoldable pub cleanGroups : ℕ → List Stores
-  cleanGroups k =
-      let ls = cleanPages k in
-      let es = cleanEntries k in
-      let gs = commitTogether u (layEntries ls 0 es) ((headWord k, getD ls 0 0) ∷ (tailWord k, tailAfter ls 0 (length es)) ∷ []) in
-      cond (isEmptyLog k) [] gs
+  -- 6 (inode 0 is allowed). "A log whose tail is 0 already changes nothing."
+  unfoldable pub cleanAction : ℕ → Action
+  cleanAction k =
+      record {
+        always = (leb N k || not (isValid u k), notThere) ∷ [];
+        unchanged = eqb (u (tailWord k)) 0;
+        changing = [];
+        appends = entriesOnly true k (cleanEntries k) ∷ [];
+        further = noWords;
+        changes = [];
+      }
 
 -- Recovering. m are the words as they stand, not the view.
 
@@ -334,29 +394,32 @@ unfoldable pub oldValues : Mem → Stores
 oldValues m w = cond (has w (openTargets m)) (some (view m w)) none
 
 -- "Recover: if the journal is open, first group the old values, second group dequeue set to enqueue."
-unfoldable pub recoverGroups : Mem → List Stores
-recoverGroups m = cond (isOpen m) (oldValues m ∷ oneWord dequeueWord (m enqueueWord) ∷ []) []
+unfoldable pub recoverAction : Mem → Action
+recoverAction m =
+    record {
+      always = [];
+      unchanged = not (isOpen m);
+      changing = [];
+      appends = [];
+      further = oldValues m;
+      changes = (dequeueWord, m enqueueWord) ∷ [];
+    }
 
--- All eight, from the words m of a volume.
+-- All eight, from the words m of a volume. The directory is inode 0.
+unfoldable pub action : Mem → ℕ → ℕ → Call → Action
+action m P N (create n) = createAction (view m) P N root n
+action m P N (link a b) = linkAction (view m) P N root a b
+action m P N (unlink n) = unlinkAction (view m) P N root n
+action m P N (rename a b) = renameAction (view m) P N root a b
+action m P N (write k o bs) = writeAction (view m) P N k o bs
+action m P N (setSize k s) = sizeAction (view m) P N k s
+action m P N (clean k) = cleanAction (view m) P N k
+action m P N recover = recoverAction m
 
 -- refusals from 5 on
 unfoldable pub checks : Mem → ℕ → ℕ → Call → Checks
-checks m P N (create n) = createChecks (view m) P N root n
-checks m P N (link a b) = linkChecks (view m) P N root a b
-checks m P N (unlink n) = unlinkChecks (view m) P N root n
-checks m P N (rename a b) = renameChecks (view m) P N root a b
-checks m P N (write k o bs) = writeChecks (view m) P N k o bs
-checks m P N (setSize k s) = sizeChecks (view m) P N k s
-checks m P N (clean k) = cleanChecks (view m) P N k
-checks m P N recover = []
+checks m P N c = actionChecks (view m) P N (action m P N c)
 
--- the groups of stores, where the call is not refused; none where there is nothing to change
+-- the groups of stores, where the call is not refused
 unfoldable pub groups : Mem → ℕ → ℕ → Call → List Stores
-groups m P N (create n) = createGroups (view m) P N root n
-groups m P N (link a b) = linkGroups (view m) P N root a b
-groups m P N (unlink n) = unlinkGroups (view m) P N root n
-groups m P N (rename a b) = renameGroups (view m) P N root a b
-groups m P N (write k o bs) = writeGroups (view m) P N k o bs
-groups m P N (setSize k s) = sizeGroups (view m) P N k s
-groups m P N (clean k) = cleanGroups (view m) P N k
-groups m P N recover = recoverGroups m
+groups m P N c = actionGroups (view m) P N (action m P N c)

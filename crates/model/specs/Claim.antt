@@ -57,8 +57,8 @@ unfoldable pub mapIn : List ℕ → FileMap
 mapIn v = mapOf (view (word v)) (word v 0) (word v 1)
 
 -- What is demanded of an event that led from v to v′.
--- "If the call was refused, the map is the one before it; if it was not and all its stores landed, the journal is closed and the map is the one
--- after it, by document 01; if it was cut, the map is one of these two."
+-- "If the call was refused, the map is the one before it; if it was not and all its stores landed, the journal is closed and the map is the
+-- one after it, by document 01; if it was cut, the map is one of these two."
 abbrev pub Demanded : List ℕ → List ℕ → Call → Power → Answer (List ℕ) → Type 0
 Demanded v v′ c p (refused n) = mapIn v′ ≡ mapIn v
 Demanded v v′ c held (done l) = (isOpen (word v′) ≡ false) × (mapIn v′ ≡ mapAfter (word v 1) c (mapIn v))
@@ -76,9 +76,9 @@ abbrev pub Kept : ℕ → List ℕ → History → Type 0
 Kept size v [] = Unit {0}
 Kept size v (e ∷ es) = Step v (volumeAfter size v e) e × Kept size (volumeAfter size v e) es
 
--- The claim. "For every list of create, link, unlink, rename, write, set size, clean and recover calls, refused and cut ones included, from an
--- accepted volume with its journal closed, wherever each cut falls and whichever unfenced stores it keeps".
--- `size` is the size of the pieces that land whole: the demand is `ThirdDemand 8`.
+-- The claim. "For every list of create, link, unlink, rename, write, set size, clean and recover calls, refused and cut ones included, from
+-- an accepted volume with its journal closed, wherever each cut falls and whichever unfenced stores it keeps". `size` is the size of the
+-- pieces that land whole: the demand is `ThirdDemand 8`.
 abbrev pub ThirdDemand : ℕ → Type 0
 ThirdDemand size =
     (v : List ℕ) → Bytes v → isAccepted v ≡ true → isOpen (word v) ≡ false → (es : History) → HistoryBytes es → Kept size v es

@@ -51,7 +51,8 @@ isZero b = eqb b 0
 unfoldable pub fieldOk : ℕ → List ℕ → Bool
 fieldOk l f = leb l nameBytes && nameOk (take l f) && all isZero (drop l f)
 
--- "files [have kinds] 1 and 2"; "Sizes are at most 65,536. Write counts are 1 to 128, file pages end at or below 128, data pages lie in T+1 to P−1."
+-- "files [have kinds] 1 and 2"; "Sizes are at most 65,536. Write counts are 1 to 128, file pages end at or below 128, data pages lie in T+1
+-- to P−1."
 unfoldable pub fileEntryOk : ℕ → ℕ → Entry → Bool
 fileEntryOk P N (writeEntry f d c s) =
     leb 1 c && leb c filePages && leb (f + c) filePages && ltb (tablePages N) d && leb (d + c) P && leb s fileBytes

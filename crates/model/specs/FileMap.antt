@@ -1,7 +1,8 @@
 -- The file map of document 01, "Volume", the calls that may change it, and the map after each.
--- The map after a call is POSIX.1-2024 as document 01 narrows it ("The store list", last paragraph), said of maps alone: no log is looked at.
+-- The map after a call is POSIX.1-2024 as document 01 narrows it ("The store list", last paragraph), said of maps alone: no log is looked
+-- at.
 use Prim.Native.Nat.{ℕ, _+_, _-_}
-use mathlib.Core.Bool.{Bool, cond, _&&_, not}
+use mathlib.Core.Bool.{cond, _&&_, not}
 use mathlib.Core.List.{List, [], _++_}
 use mathlib.Core.Option.{Option, none, some}
 use lib.ListN.{length, take, drop, replicate}

@@ -3,6 +3,7 @@
 use Prim.Native.Nat.{ℕ, _+_, _*_, _/_, _%_}
 use mathlib.Core.Bool.{Bool, _&&_}
 use lib.Dec.{leb, ltb, eqb}
+use Rattle.model.specs.Words.{Mem}
 
 -- The limits that document 01 names.
 abbrev pub filePages : ℕ
@@ -31,7 +32,8 @@ tablePages N = N / 8
 unfoldable pub sizesOk : ℕ → ℕ → Bool
 sizesOk P N = leb 16 P && leb P 4096 && leb 8 N && leb N 256 && eqb (N % 8) 0 && leb (tablePages N + 4) P
 
--- "Inode k starts at word 64+8k. Its first word is valid (0 or 1), its second the head (a page number), its third the tail (a byte offset)."
+-- "Inode k starts at word 64+8k. Its first word is valid (0 or 1), its second the head (a page number), its third the tail (a byte
+-- offset)."
 abbrev pub validWord : ℕ → ℕ
 validWord k = 64 + 8 * k
 
@@ -45,8 +47,9 @@ tailWord k = 66 + 8 * k
 abbrev pub root : ℕ
 root = 0
 
-abbrev pub isDirectory : ℕ → Bool
-isDirectory k = eqb k root
+-- asked of the view u
+abbrev pub isDirectory : Mem → ℕ → Bool
+isDirectory u k = eqb k root
 
 -- "Pages T+1 to P−1 hold logs and data."
 unfoldable pub inPages : ℕ → ℕ → ℕ → Bool

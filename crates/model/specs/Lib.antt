@@ -1,5 +1,6 @@
 -- Document 01 as definitions, in reading order. docs/MODEL.md lays each sentence of it beside its definition.
 pub mod Lists
+pub mod Stretches
 pub mod Words
 pub mod Layout
 pub mod Journal

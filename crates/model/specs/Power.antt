@@ -2,11 +2,12 @@
 -- the old value or the new, each for itself, and nothing after it is stored."
 use Prim.Native.Nat.{ℕ, zero, suc, _+_, _/_}
 use mathlib.Core.Bool.{Bool, cond}
-use mathlib.Core.List.{List, [], _∷_, _++_}
+use mathlib.Core.List.{List, [], _∷_}
 use lib.Dec.{eqb}
 use Rattle.model.specs.Stores.{fence, carried}
 
--- Groups count from 0. The words of the groups before group g, each with the fence that ends it; and the words of group g, without its fence.
+-- Groups count from 0. The words of the groups before group g, each with the fence that ends it; and the words of group g, without its
+-- fence.
 unfoldable pub before : ℕ → List ℕ → List ℕ
 before zero l = []
 before (suc g) [] = []
@@ -19,7 +20,8 @@ group g (i ∷ []) = []
 group zero (i ∷ x ∷ r) = let s = group zero r in cond (eqb i fence) [] (i ∷ x ∷ s)
 group (suc g) (i ∷ x ∷ r) = let s = group g r in let t = group (suc g) r in cond (eqb i fence) s t
 
--- Bytes of which each aligned piece of `size` bytes is the old one or the new one: `kept` says which pieces are new. b is the index of the first byte.
+-- Bytes of which each aligned piece of `size` bytes is the old one or the new one: `kept` says which pieces are new. b is the index of the
+-- first byte.
 unfoldable pub mixed : ℕ → (ℕ → Bool) → ℕ → List ℕ → List ℕ → List ℕ
 mixed size kept b [] new = []
 mixed size kept b (x ∷ old) [] = x ∷ old

@@ -1,4 +1,5 @@
--- What else is promised: corollaries of the third demand, the shape of every store list, format, and the reading calls in terms of the file map.
+-- What else is promised: corollaries of the third demand, the shape of every store list, format, and the reading calls in terms of the file
+-- map.
 use Prim.Native.Nat.{ℕ, _+_, _-_, _*_, _^_, _≤_}
 use mathlib.Core.Path.{_≡_}
 use mathlib.Core.Logic.{_⊎_}
@@ -17,7 +18,8 @@ use Rattle.model.specs.Stores.{Stores}
 use Rattle.model.specs.Power.{Power, held, cut, group, leaves}
 use Rattle.model.specs.Answer.{Answer, refused, done, notThere, filledFrom}
 use Rattle.model.specs.Calls.{groups}
-use Rattle.model.specs.Public.{isAccepted, fills, formatAnswer, formatVolume, pairsOk, endsInFence, carryOut, findAnswer, sizeAnswer, readAnswer, readBuffer, kthNameAnswer, kthNameBuffer, freeAnswer}
+use Rattle.model.specs.Public.{isAccepted, fills, formatAnswer, formatVolume, pairsOk, endsInFence, carryOut, findAnswer, sizeAnswer}
+use Rattle.model.specs.Public.{readAnswer, readBuffer, kthNameAnswer, kthNameBuffer, freeAnswer}
 use Rattle.model.specs.Claim.{Bytes, CallBytes, Event, History, HistoryBytes, answerTo, volumeAfter, mapIn}
 
 -- Below, pieces of 8 bytes land whole.
@@ -28,12 +30,13 @@ byOutcome (refused n) p without with′ = without
 byOutcome (done l) held without with′ = with′
 byOutcome (done l) (cut g kept) without with′ = without ⊎ with′
 
--- "So every call finished earlier is kept": after a history that starts at the volume v with the map M, the map is M with every finished call applied,
--- and of the cut calls some, in order.
+-- "So every call finished earlier is kept": after a history that starts at the volume v with the map M, the map is M with every finished
+-- call applied, and of the cut calls some, in order.
 abbrev pub Explained : List ℕ → FileMap → History → Type 0
 Explained v M [] = mapIn v ≡ M
 Explained v M (e ∷ es) =
-    byOutcome (answerTo v e) (e .power) (Explained (volumeAfter 8 v e) M es) (Explained (volumeAfter 8 v e) (mapAfter (word v 1) (e .call) M) es)
+    byOutcome (answerTo v e) (e .power) (Explained (volumeAfter 8 v e) M es)
+    (Explained (volumeAfter 8 v e) (mapAfter (word v 1) (e .call) M) es)
 
 abbrev pub FinishedKept : Type 0
 FinishedKept = (v : List ℕ) → Bytes v → isAccepted v ≡ true → (es : History) → HistoryBytes es → Explained v (mapIn v) es
@@ -47,7 +50,8 @@ AtMostTwo =
     (v : List ℕ) → Bytes v → isAccepted v ≡ true → (c : Call) → CallBytes c → (l : ℕ) (g₁ g₂ g₃ : ℕ) (k₁ k₂ k₃ : ℕ → Bool)
     → (leftBy v c l g₁ k₁ ≡ leftBy v c l g₂ k₂) ⊎ ((leftBy v c l g₁ k₁ ≡ leftBy v c l g₃ k₃) ⊎ (leftBy v c l g₂ k₂ ≡ leftBy v c l g₃ k₃))
 
--- "a recovery run through, however many were cut, closes the journal and keeps the map": recoveries with any lists and any power, then one that lands
+-- "a recovery run through, however many were cut, closes the journal and keeps the map": recoveries with any lists and any power, then one
+-- that lands
 abbrev pub recoverWith : ℕ → Power → Event
 recoverWith l p = record { call = recover; list = l; power = p }
 
@@ -141,11 +145,13 @@ pub record ReadsMap (v : List ℕ) : Type 0 where
   pub finds : (n : List ℕ) → nameOk n ≡ true
       → findAnswer v n ≡ ifThere (cond (eqb (inodeOf (mapIn v .names) n) 0) none (some (inodeOf (mapIn v .names) n))) (λ i. i)
   pub sizes : (k : ℕ) → sizeAnswer v k ≡ ifThere (mapIn v .files k) length
-  pub reads : (k o : ℕ) (buffer : List ℕ) → readAnswer v k o buffer ≡ ifThere (mapIn v .files k) (λ bs. length (take (length buffer) (drop o bs)))
+  pub reads : (k o : ℕ) (buffer : List ℕ) → readAnswer v k o buffer
+      ≡ ifThere (mapIn v .files k) (λ bs. length (take (length buffer) (drop o bs)))
   pub fills-buffer : (k o : ℕ) (buffer : List ℕ)
       → readBuffer v k o buffer ≡ filledFrom buffer (ifThere (mapIn v .files k) (λ bs. take (length buffer) (drop o bs)))
   pub names : (k : ℕ) (buffer : List ℕ) → 32 ≤ length buffer → kthNameAnswer v k buffer ≡ ifThere (kthOf (mapIn v) k) length
-  pub names-buffer : (k : ℕ) (buffer : List ℕ) → 32 ≤ length buffer → kthNameBuffer v k buffer ≡ filledFrom buffer (ifThere (kthOf (mapIn v) k) padded)
+  pub names-buffer : (k : ℕ) (buffer : List ℕ) → 32 ≤ length buffer → kthNameBuffer v k buffer
+      ≡ filledFrom buffer (ifThere (kthOf (mapIn v) k) padded)
 
 abbrev pub ReadingDone : Type 0
 ReadingDone = (v : List ℕ) → isAccepted v ≡ true → isOpen (word v) ≡ false → ReadsMap v

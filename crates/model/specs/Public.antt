@@ -1,6 +1,6 @@
 -- The fifteen calls, for all bytes and numbers: the answer, and each byte of lent memory afterwards.
 -- v are the bytes of the lent volume before the call. Format and carry out may change them; every other call leaves them.
-use Prim.Native.Nat.{ℕ, zero, suc, _+_, _-_, _*_, _/_, _%_, min}
+use Prim.Native.Nat.{ℕ, _+_, _-_, _*_, _%_, min}
 use mathlib.Core.Bool.{Bool, true, false, cond, _&&_, _||_, not}
 use mathlib.Core.List.{List, [], _∷_, _++_}
 use lib.ListN.{length, getD, take, drop, replicate}
@@ -14,7 +14,8 @@ use Rattle.model.specs.State.{fileOf, fileByte, namesOf, inodeOf}
 use Rattle.model.specs.Accept.{freeCount, accepted}
 use Rattle.model.specs.FileMap.{Call, create, link, unlink, rename, write, setSize, clean, recover}
 use Rattle.model.specs.Stores.{fence, storeList, carried}
-use Rattle.model.specs.Answer.{Answer, refused, done, Nothing, Checks, firstRefusal, mapAnswer, filledFrom, replacedBy, shortMemory, noVolume, damaged, journalOpen, badName, notThere, badList}
+use Rattle.model.specs.Answer.{Answer, done, Nothing, Checks, firstRefusal, mapAnswer, filledFrom, replacedBy, shortMemory, noVolume}
+use Rattle.model.specs.Answer.{damaged, journalOpen, badName, notThere, badList}
 use Rattle.model.specs.Calls.{stands, noFile, checks, groups}
 
 -- A volume by its length and its words 0, 1 and 2. "The slice is exactly P × 512 bytes long."

@@ -1,5 +1,5 @@
 -- Document 01, "The store list": groups of stores, their text in the list, and what carrying them out leaves.
-use Prim.Native.Nat.{ℕ, zero, suc, _+_, _-_, _*_, _^_}
+use Prim.Native.Nat.{ℕ, zero, suc, _+_, _-_, _^_}
 use mathlib.Core.Bool.{Bool, cond, _&&_}
 use mathlib.Core.List.{List, [], _∷_, _++_}
 use mathlib.Core.Option.{Option, none, some}
@@ -10,6 +10,10 @@ use Rattle.model.specs.Words.{Mem, putWord}
 -- The stores of one group: which words are stored, and what. A word is stored once.
 abbrev pub Stores : Type 0
 Stores = ℕ → Option ℕ
+
+-- no word
+abbrev pub noWords : Stores
+noWords w = none
 
 -- x in word i
 unfoldable pub oneWord : ℕ → ℕ → Stores

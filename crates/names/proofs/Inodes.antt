@@ -1,16 +1,8 @@
 -- What acceptance asks of the names: an inode is marked exactly if a name leads to it, so that the marks tell which files have names.
-use Prim.Native.Nat.{ℕ, zero, suc, _+_, _*_, _-_, _≤_, _<_}
-use mathlib.Core.Path.{_≡_, refl, sym, _∙_, ap}
-use mathlib.Core.Bool.{Bool, true, false, cond, not, _||_}
-use mathlib.Core.List.{List, [], _∷_, map}
-use native.Mathlib.Omega.{arith}
-use native.Mathlib.Numerals.{sub-one}
-use lib.ListN.{length, take, getD, set, replicate, length-set, length-replicate, getD-replicate}
-use lib.Seq.{getD-set-same, getD-set-other}
-use lib.Dec.{eqb}
-use borrow.Author.Tests.{eq-eqb, ne-eqb, lt-ltb, le-ltb, le-leb, ltb-true}
+use Rattle.model.proofs.Prelude.{ℕ, zero, suc, _+_, _*_, _-_, _≤_, _<_, _≡_, refl, sym, _∙_, ap, Bool, true, false, cond, not, _||_, List, [], _∷_, map, arith, sub-one, length, take, getD, set, replicate, length-set, length-replicate, getD-replicate, getD-set-same, getD-set-other, eqb, eq-eqb, ne-eqb, lt-ltb, le-ltb, le-leb, ltb-true}
 use Rattle.model.specs.Lists.{allBelow, valuesFrom, all, has}
 use Rattle.model.specs.Words.{Mem}
+use Rattle.model.specs.Layout.{validWord}
 use Rattle.model.specs.State.{inodes}
 use Rattle.model.specs.Accept.{isValid, isFile, namesOk}
 use Rattle.model.proofs.Tests.{by-bool, by-eq, and-left}
@@ -28,9 +20,9 @@ module _ (u : Mem) (N k : ℕ) where
   unfolding validIn below
   valid-far h = rw (le-ltb k N h)
 
-  pub valid-is : (x : ℕ) → k < N → x ≡ u (64 + 8 * k) → eqb x 1 ≡ validIn u N k
+  pub valid-is : (w x : ℕ) → k < N → w ≡ validWord k → x ≡ u w → eqb x 1 ≡ validIn u N k
   unfolding validIn below
-  valid-is x h e = rw (lt-ltb k N h, e)
+  valid-is w x h i e = rw (lt-ltb k N h, e, i)
 
 -- The loops over places: n are left, from the i-th on; p is the place that the code read, k the inode.
 

@@ -1,12 +1,5 @@
 -- The names of a directory that is accepted: those that `names_of` put into the table, if `names_ok` found them as they should be.
-use Prim.Native.Nat.{ℕ}
-use mathlib.Core.Path.{_≡_, sym, _∙_}
-use mathlib.Core.Bool.{Bool, true, false, not, _&&_}
-use mathlib.Core.List.{List}
-use native.Mathlib.Omega.{arith}
-use lib.Dec.{leb}
-use lib.ListN.{length, take}
-use borrow.Author.Tests.{not-true, not-false}
+use Rattle.model.proofs.Prelude.{ℕ, _≡_, sym, _∙_, Bool, true, false, not, _&&_, List, arith, leb, length, take, not-true, not-false}
 use Rattle.model.specs.Lists.{all}
 use Rattle.model.specs.Words.{Mem}
 use Rattle.model.specs.Layout.{isDirectory, mostNames}
@@ -41,7 +34,7 @@ module _ (m u : Mem) (L P N d : ℕ) (x : Named) (t : List ℕ)
   good-filled h = f .filled (not-false (x .good) h)
 
   -- names lead to inodes of the table
-  pub names-below : isDirectory d ≡ true → not (x .good) ≡ false → all (below N) (inodesFrom m t 0 (x .count)) ≡ true
+  pub names-below : isDirectory u d ≡ true → not (x .good) ≡ false → all (below N) (inodesFrom m t 0 (x .count)) ≡ true
   unfolding logOk namesOf
   names-below dir h =
       let k = not-false (x .good) h in

@@ -35,20 +35,20 @@ pub fn is_valid(v: &[u8], k: usize, inodes: usize) -> bool
     if inodes <= k {
         return false;
     }
-    journal::viewed(v, 64 + 8 * k) == 1
+    journal::viewed(v, layout::valid_word(k)) == 1
 }
 
 // Answers whether the names at the first count places of a table all lead to valid inodes.
 // Example: where one of them leads to inode 5 and word 104, its valid word, is 0, it is false.
-fn all_valid(v: &[u8], table: &[u16; 224], count: usize, inodes: usize) -> bool
-    requires { ⌜ Readable (word (now v)) (length (now v)) inodes × Filled (word (now v)) (length (now v)) count (now table) ⌝ }
+fn all_valid(v: &[u8], places: &[u16; 224], count: usize, inodes: usize) -> bool
+    requires { ⌜ Readable (word (now v)) (length (now v)) inodes × Filled (word (now v)) (length (now v)) count (now places) ⌝ }
     ensures { λ r. ⌜ r ≡ all (validIn (view (word (now (v .entry)))) inodes)
-        (inodesFrom (word (now (v .entry))) (now (table .entry)) 0 count) ⌝ }
+        (inodesFrom (word (now (v .entry))) (now (places .entry)) 0 count) ⌝ }
 {
     let mut i: usize = 0;
     let mut left = count;
     while 0 < left {
-        let p = directory::place(table, i);
+        let p = directory::place(places, i);
         let k = inode_at(v, p);
         if !is_valid(v, k, inodes) {
             return false;
@@ -79,15 +79,15 @@ fn has_mark(marks: &[u8; 256], k: usize) -> bool
 
 // Marks the inodes that the names at the first count places of a table lead to. Answers nothing.
 // Example: where two names stand, which lead to inodes 5 and 3, it makes bytes 5 and 3 a 1.
-fn mark_inodes(v: &[u8], table: &[u16; 224], count: usize, marks: &mut [u8; 256])
-    requires { ⌜ Filled (word (now v)) (length (now v)) count (now table)
-        × (all (below 256) (inodesFrom (word (now v)) (now table) 0 count) ≡ true) ⌝ }
-    ensures { λ _. ⌜ now (marks .exit) ≡ marked (now (marks .entry)) (inodesFrom (word (now (v .entry))) (now (table .entry)) 0 count) ⌝ }
+fn mark_inodes(v: &[u8], places: &[u16; 224], count: usize, marks: &mut [u8; 256])
+    requires { ⌜ Filled (word (now v)) (length (now v)) count (now places)
+        × (all (below 256) (inodesFrom (word (now v)) (now places) 0 count) ≡ true) ⌝ }
+    ensures { λ _. ⌜ now (marks .exit) ≡ marked (now (marks .entry)) (inodesFrom (word (now (v .entry))) (now (places .entry)) 0 count) ⌝ }
 {
     let mut i: usize = 0;
     let mut left = count;
     while 0 < left {
-        let p = directory::place(table, i);
+        let p = directory::place(places, i);
         let k = inode_at(v, p);
         set_mark(marks, k);
         i = i + 1;
@@ -129,43 +129,44 @@ fn all_marked(v: &[u8], marks: &[u8; 256], inodes: usize) -> bool
 
 // Answers whether the names at the first count places of a table, which are at most 224, are as an accepted volume has them: each
 // leads to a valid file, and each valid file has a name.
-// Example: of a volume just formatted names_ok(v, table, 0, inodes) is true.
-pub fn names_ok(v: &[u8], table: &[u16; 224], count: usize, inodes: usize) -> bool
-    requires { ⌜ Readable (word (now v)) (length (now v)) inodes × Filled (word (now v)) (length (now v)) count (now table)
-        × (all (below inodes) (inodesFrom (word (now v)) (now table) 0 count) ≡ true) ⌝ }
+// Example: of a volume just formatted names_ok(v, places, 0, inodes) is true.
+pub fn names_ok(v: &[u8], places: &[u16; 224], count: usize, inodes: usize) -> bool
+    requires { ⌜ Readable (word (now v)) (length (now v)) inodes × Filled (word (now v)) (length (now v)) count (now places)
+        × (all (below inodes) (inodesFrom (word (now v)) (now places) 0 count) ≡ true) ⌝ }
     ensures { λ r. ⌜ r ≡ namesOk (view (word (now (v .entry)))) inodes
-        (standing (word (now (v .entry))) (take count (now (table .entry)))) ⌝ }
+        (standing (word (now (v .entry))) (take count (now (places .entry)))) ⌝ }
 {
-    if !all_valid(v, table, count, inodes) {
+    if !all_valid(v, places, count, inodes) {
         return false;
     }
     let mut marks = [0u8; 256];
-    mark_inodes(v, table, count, &mut marks);
+    mark_inodes(v, places, count, &mut marks);
     all_marked(v, &marks, inodes)
 }
 
 // Puts the places of the names of directory d into a table, and answers how many; not good where its log or its names are not as an
 // accepted volume has them.
-// Example: of a volume just formatted accepted_names(v, 0, pages, inodes, table) is good and has 0 names, and is not good once word 72,
+// Example: of a volume just formatted accepted_names(v, 0, pages, inodes, places) is good and has 0 names, and is not good once word 72,
 // the valid word of inode 1, is 1: that file has no name.
 pub fn accepted_names(
     v: &[u8],
     d: usize,
     pages: usize,
     inodes: usize,
-    table: &mut [u16; 224],
+    places: &mut [u16; 224],
 ) -> Named
-    requires { ⌜ Ready (word (now v)) (length (now v)) pages inodes × (isDirectory d ≡ true) × (length (now table) ≡ 224) ⌝ }
+    requires { ⌜ Ready (word (now v)) (length (now v)) pages inodes × (isDirectory (view (word (now v))) d ≡ true)
+        × (length (now places) ≡ 224) ⌝ }
     ensures { λ r. ⌜ Folds (word (now (v .entry))) (length (now (v .entry)))
         (logOk (view (word (now (v .entry)))) pages inodes d
         && namesOk (view (word (now (v .entry)))) inodes (namesOf (view (word (now (v .entry)))) pages inodes d))
-        (namesOf (view (word (now (v .entry)))) pages inodes d) r (now (table .exit)) ⌝ }
+        (namesOf (view (word (now (v .entry)))) pages inodes d) r (now (places .exit)) ⌝ }
 {
-    let named = directory::names_of(v, d, pages, inodes, table);
+    let named = directory::names_of(v, d, pages, inodes, places);
     if !named.good {
         return named;
     }
-    if !names_ok(v, table, named.count, inodes) {
+    if !names_ok(v, places, named.count, inodes) {
         return directory::not_good();
     }
     named

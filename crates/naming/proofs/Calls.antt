@@ -1,49 +1,43 @@
--- The calls by name: behind the gate and the call's first checks what is left is the append's outcome, with the call's entries.
-use Prim.Native.Nat.{ℕ, _*_, _≤_, _<_}
-use mathlib.Core.Path.{_≡_, refl, sym, _∙_, ap}
-use mathlib.Core.Bool.{true, false, not, _&&_}
-use mathlib.Core.List.{List, [], _∷_}
-use mathlib.Core.Option.{some}
-use native.Mathlib.Omega.{arith}
-use borrow.Author.Tests.{ltb-false, eq-eqb, ne-eqb, not-false}
-use lib.Dec.{ltb, eqb}
-use lib.ListN.{length, take, replicate, length-replicate}
+-- The calls by name: behind the gate and the call's first checks what is left is an append to the directory's log.
+use Rattle.model.proofs.Prelude.{ℕ, _/_, _≤_, _<_, _≡_, refl, sym, _∙_, ap, true, false, not, _&&_, List, [], _∷_, some, arith, eq-eqb, ne-eqb, not-false, eqb, length, take}
 use Rattle.model.specs.Lists.{orElse, isSome, count}
 use Rattle.model.specs.Words.{Mem, word}
 use Rattle.model.specs.Layout.{root}
-use Rattle.model.specs.Journal.{isOpen, journalOk, view}
-use Rattle.model.specs.Entry.{addWords, removeWords}
+use Rattle.model.specs.Journal.{view}
+use Rattle.model.specs.Entry.{nameWords, addWords, removeWords}
 use Rattle.model.specs.State.{Names, inodeOf, inodes, namesOf}
-use Rattle.model.specs.Stores.{storeList}
-use Rattle.model.specs.Accept.{accepted, logOk, viewOk}
-use Rattle.model.specs.FileMap.{create, link, unlink, rename}
-use Rattle.model.specs.Answer as model
-use Rattle.model.specs.Answer.{refused, done, Checks, firstRefusal, mapAnswer, filledFrom}
-use Rattle.model.specs.Calls.{groups, createGroups, linkGroups, unlinkGroups, renameGroups, createAppend, linkAppend, unlinkAppend, renameAppend, invalidInode, release, sameInode, noRoom, entriesOnly}
-use Rattle.model.specs.Public.{closedChecks, volumeChecks, fills, callAnswer, callList}
-use Rattle.model.proofs.Tests.{by-bool, no, and-left, and-right}
+use Rattle.model.specs.Stores.{Stores, storeList}
+use Rattle.model.specs.Accept.{logOk}
+use Rattle.model.specs.FileMap.{Call, create, link, unlink, rename}
+use Rattle.model.specs.Answer.{refused, done, Checks, firstRefusal}
+use Rattle.model.specs.Calls.{Change, groups, action, actionChecks, actionGroups, createAction, linkAction, unlinkAction, renameAction, entriesOnly, invalidInode, release, sameInode}
+use Rattle.model.specs.Public.{needsClosed}
+use Rattle.model.proofs.Tests.{by-bool, no}
 use Rattle.model.proofs.Crash.History.{Passed}
-use Rattle.model.proofs.Crash.Journal.{closed-view}
-use Rattle.model.proofs.Crash.Landing.{volume-parts, sizes-parts}
-use Rattle.model.proofs.Lengths.{create-short, link-short, unlink-short, rename-short}
+use Rattle.model.proofs.Frame.View.{log-ok, root-valid}
 use Rattle.model.proofs.State.NamesFine.{leads}
 use Rattle.model.proofs.State.NameEntries.{names-in}
-use Rattle.survey.proofs.Facts.{view-names}
 use Rattle.directory.specs.Places.{standing}
 use Rattle.links.proofs.Lowest.{inode-below, inode-some as inode-some-is}
-use Rattle.group.specs.Plan.{entriesOf}
-use Rattle.entries.specs.Table.{Put}
-use Rattle.entries.proofs.Entries.{put-one, put-two}
+use Rattle.inodes.specs.Judged.{Closed}
+use Rattle.entries.specs.Table.{entriesOf, Put}
+use Rattle.entries.proofs.Entries.{one-entry, put-two}
 use Rattle.answer.specs.Meaning.{meaning, numbered}
+use Rattle.answer.specs.Comes.{Comes, cameTo}
 use Rattle.answer.specs.declared.Answer.{Answer}
 use Rattle.answer.specs.declared.Answer.the-variants.{Number}
-use Rattle.gate.specs.Gated.{rootNames, fillChecks, Gated}
-use Rattle.gate.proofs.Gates.{last-passes, same-number}
 use Rattle.answer.proofs.Codes.{NoNumber}
-use Rattle.gate.proofs.Lists.{filledWords, fill-refused}
+use Rattle.answer.proofs.Coming.{comes-none, comes-as}
+use Rattle.append.specs.declared.Append.{Append}
+use Rattle.append.specs.Appended.{zeroed, alsoCommitted, plain, actionOf, outcome, Ready}
+use Rattle.append.proofs.Volumes.{closed-sizes, closed-fine}
+use Rattle.append.proofs.Outcomes.{asked-only, zeroed-new, zeroed-none, also-new, also-nothing}
+use Rattle.gate.specs.Gated.{rootNames, fillChecks, Gated}
+use Rattle.gate.proofs.Gates.{same-number}
+use Rattle.gate.proofs.Lists.{fill-refused, fill-long, fill-closed, fill-view}
 use Rattle.checks.specs.Names.{firstInvalid, freeInode, createFirst, linkFirst, unlinkFirst, renameFirst}
 use Rattle.checks.proofs.Behind.{create-refused, create-behind, link-refused, link-behind, link-inode, unlink-refused, unlink-behind, unlink-inode, rename-refused, rename-behind, rename-inode}
-use Rattle.naming.specs.Appended.{Closed, releasing, lastNamed, appendWords, newWords, outcome}
+use Rattle.naming.specs.Root.{rootAppend, lastNamed}
 
 -- a refusal is no done answer
 clash : {A X : Type 0} (k : ℕ) (a : A) → refused k ≡ done a → X
@@ -56,32 +50,11 @@ none-holds (t ∷ ts) a n h =
     by-bool (t .0) (λ b. clash (t .1) (some n) (sym (rw b at h))) (λ b. (b, none-holds ts a n (rw b at h)))
 
 -- what the gate refuses, each call refuses
-module _ (v l : List ℕ) (r : Answer) (places marks : List ℕ) (g : Gated v root (fillChecks (length v) (word v) (length l)) r places marks) (o : NoNumber r) where
-  pub gate-create-answer : (x : List ℕ) → meaning r ≡ numbered (callAnswer v l (create x))
-  gate-create-answer x = fill-refused v l (create x) refl r places marks g o .0
+pub gate-told : (v l : List ℕ) (r : Answer) (places marks : List ℕ) → Gated v root (fillChecks (length v) (word v) (length l)) r places marks → NoNumber r
+    → (c : Call) → needsClosed c ≡ true → Comes (cameTo v l c) l r l
+gate-told v l r places marks g o c n = fill-refused v l c n r places marks g o
 
-  pub gate-create-list : (x : List ℕ) → l ≡ callList v l (create x)
-  gate-create-list x = fill-refused v l (create x) refl r places marks g o .1
-
-  pub gate-link-answer : (x y : List ℕ) → meaning r ≡ numbered (callAnswer v l (link x y))
-  gate-link-answer x y = fill-refused v l (link x y) refl r places marks g o .0
-
-  pub gate-unlink-answer : (x : List ℕ) → meaning r ≡ numbered (callAnswer v l (unlink x))
-  gate-unlink-answer x = fill-refused v l (unlink x) refl r places marks g o .0
-
-  pub gate-unlink-list : (x : List ℕ) → l ≡ callList v l (unlink x)
-  gate-unlink-list x = fill-refused v l (unlink x) refl r places marks g o .1
-
-  pub gate-rename-answer : (x y : List ℕ) → meaning r ≡ numbered (callAnswer v l (rename x y))
-  gate-rename-answer x y = fill-refused v l (rename x y) refl r places marks g o .0
-
-  pub gate-rename-list : (x y : List ℕ) → l ≡ callList v l (rename x y)
-  gate-rename-list x y = fill-refused v l (rename x y) refl r places marks g o .1
-
-  pub gate-link-list : (x y : List ℕ) → l ≡ callList v l (link x y)
-  gate-link-list x y = fill-refused v l (link x y) refl r places marks g o .1
-
--- The inode that loses its last name: c is how many names lead to inode i.
+-- `released`: c is how many names lead to inode i
 module _ (ns : Names) (i : ℕ) where
   pub none-lost : i ≡ 0 → 0 ≡ lastNamed ns i
   unfolding lastNamed
@@ -100,14 +73,40 @@ module _ (ns : Names) (i : ℕ) where
   unfolding lastNamed
   lost-below N p f = by-bool (not (eqb i 0) && eqb (count i (inodes ns)) 1) (λ t. rw t (f (λ z. no (rw (eq-eqb i 0 z) at t)))) (λ t. rw t p)
 
-released-is : (u : Mem) (P N : ℕ) (x : List ℕ) → releasing (lastNamed (namesOf u P N root) (inodeOf (namesOf u P N root) x)) ≡ release u P N root x
-unfolding releasing lastNamed release
+released-is : (u : Mem) (P N : ℕ) (x : List ℕ)
+    → alsoCommitted (rootAppend (lastNamed (namesOf u P N root) (inodeOf (namesOf u P N root) x)) 0) ≡ release u P N root x
+unfolding alsoCommitted lastNamed release
 released-is u P N x =
     let ns = namesOf u P N root in
     let i = inodeOf ns x in
     by-bool (not (eqb i 0) && eqb (count i (inodes ns)) 1)
     (λ t. by-bool (eqb i 0) (λ z. no (rw z at t)) (λ z. rw (t, z)))
     (λ t. rw t)
+
+-- `append_root`: b and a are the append as the code makes it
+module _ (b a : Append) (o x : ℕ) (p : b ≡ rootAppend 0 0)
+    (q : a ≡ record { log = b .log; anew = b .anew; file = b .file; size = b .size; other = o; valid = x }) where
+  same-append : a ≡ rootAppend o x
+  same-append = q ∙ rw p
+
+  pub made-ready : (v m ws l : List ℕ) → Ready v m (rootAppend o x) ws [] l → Ready v m a ws [] l
+  made-ready v m ws l y = rw same-append y
+
+  pub made-comes : (v ws l : List ℕ) (r : Answer) (l′ : List ℕ) → Comes (outcome v (actionOf a ws [])) l r l′
+      → Comes (outcome v (actionOf (rootAppend o x) ws [])) l r l′
+  made-comes v ws l r l′ y = rw same-append at y
+
+-- one entry, as its eight words
+one-named : (e w : List ℕ) → e ≡ w → length w ≡ 8 → entriesOf e 0 (length e / 8) ≡ w ∷ []
+one-named e w q h = rw (q, h) (one-entry w h)
+
+pub add-long : (i : ℕ) (x : List ℕ) → length (addWords i x) ≡ 8
+unfolding addWords nameWords
+add-long i x = refl
+
+pub remove-long : (x : List ℕ) → length (removeWords x) ≡ 8
+unfolding removeWords nameWords
+remove-long x = refl
 
 -- r, places and marks are what the gate answered and left
 module _ (v l : List ℕ) (r : Answer) (places marks : List ℕ) (g : Gated v root (fillChecks (length v) (word v) (length l)) r places marks) (n : ℕ) (e : r ≡ Number n) where
@@ -121,36 +120,53 @@ module _ (v l : List ℕ) (r : Answer) (places marks : List ℕ) (g : Gated v ro
   came = rw e at (g .answer)
 
   list-long : 4096 ≤ length l
-  unfolding fillChecks
-  list-long = ltb-false (length l) 4096 (none-holds (fillChecks (length v) m (length l)) _ n came .0)
+  list-long = fill-long v l r places marks g n e
 
-  closed-is : isOpen m ≡ false
-  unfolding fillChecks closedChecks
-  closed-is = last-passes ((ltb (length l) 4096, 1) ∷ volumeChecks (length v) m) (isOpen m) 4 (length (rootNames v)) n came
-
-  pub closed-here : Closed v marks
-  closed-here = record { volume = g .tables n e .volume; good = g .tables n e .good; closed = closed-is; served = g .tables n e .served }
-
-  -- there is an inode 0
-  pub some-inodes : 0 < m 1
-  some-inodes = let s = sizes-parts (m 0) (m 1) (volume-parts (length v) m (g .tables n e .volume) .sizes) .some-inodes in omega arith
+  closed-here : Closed v marks
+  closed-here = fill-closed v l r places marks g n e
 
   same-view : view m ≡ m
-  same-view = closed-view m closed-is
+  same-view = fill-view v l r places marks g n e
+
+  pub some-inodes : 0 < m 1
+  some-inodes = omega (arith, closed-sizes v marks closed-here .3)
+
+  -- the entries ws can be appended
+  root-ready : (o x : ℕ) (ws : List ℕ) → o < m 1 → 8 ≤ length ws → length ws ≤ 16 → Ready v marks (rootAppend o x) ws [] l
+  root-ready o x ws h f k =
+      let s = list-long in
+      record {
+        volume = closed-here;
+        log = some-inodes;
+        valid = root-valid m (m 0) (m 1) (closed-fine v marks closed-here) some-inodes;
+        other = h;
+        some-entry = λ z. omega arith;
+        few = omega arith;
+        whole = refl;
+        room = omega arith;
+      }
+
+  -- one entry w, as the code has it, and two, put into an array of 16 words
+  pub one-ready : (o x : ℕ) (w es : List ℕ) → w ≡ es → length es ≡ 8 → o < m 1 → Ready v marks (rootAppend o x) w [] l
+  one-ready o x w es q k h = let f : length w ≡ 8 = ap length q ∙ k in root-ready o x w h (omega arith) (omega arith)
+
+  pub two-ready : (o x : ℕ) (a b w₀ w₁ ws : List ℕ) → Put w₀ w₁ 0 a → Put w₁ ws 1 b → length w₀ ≡ 16 → o < m 1 → Ready v marks (rootAppend o x) ws [] l
+  two-ready o x a b w₀ w₁ ws p q k h = let f : length ws ≡ 16 = q .long ∙ p .long ∙ k in root-ready o x ws h (omega arith) (omega arith)
+
+  -- what they come to; es are these entries
+  root-outcome : (o x : ℕ) (ws : List ℕ) (es : List (List ℕ)) (s : Stores) (cs : List Change) → entriesOf ws 0 (length ws / 8) ≡ es
+      → zeroed (rootAppend o x) ≡ s → alsoCommitted (rootAppend o x) ≡ cs
+      → outcome v (actionOf (rootAppend o x) ws []) ≡ outcome v (plain (entriesOnly false root es ∷ []) s cs)
+  unfolding actionOf
+  root-outcome o x ws es s cs p q w = rw (asked-only (rootAppend o x) ws refl refl, p, q, w)
 
   -- Create: N is the inode count as the code read it, t what the first checks answered.
   module _ (x : List ℕ) (N : ℕ) (q : N ≡ m 1) (t : Answer) (h : meaning t ≡ numbered (firstRefusal (createFirst (view m) N found x) (done (freeInode (view m) N)))) where
     first : meaning t ≡ numbered (firstRefusal (createFirst (view m) (m 1) found x) (done (freeInode (view m) (m 1))))
     first = rw q at h
 
-    create-told : NoNumber t → (meaning t ≡ numbered (callAnswer v l (create x))) × (l ≡ callList v l (create x))
+    pub create-told : NoNumber t → Comes (cameTo v l (create x)) l t l
     create-told o = create-refused v l r places marks g n e x t first o
-
-    pub create-told-answer : NoNumber t → meaning t ≡ numbered (callAnswer v l (create x))
-    create-told-answer o = create-told o .0
-
-    pub create-told-list : NoNumber t → l ≡ callList v l (create x)
-    create-told-list o = create-told o .1
 
     module _ (i : ℕ) (j : t ≡ Number i) where
       inode-is : i ≡ freeInode (view m) (m 1)
@@ -170,232 +186,103 @@ module _ (v l : List ℕ) (r : Answer) (places marks : List ℕ) (g : Gated v ro
       pub create-below : i < m 1
       create-below = inode-below (view m) (m 0) (m 1) i inode-is not-zero
 
-      pub create-above : 0 < i
-      create-above = let z = not-zero in omega arith
-
-      -- ws is the table with the entry
-      module _ (w₀ ws : List ℕ) (put : Put w₀ ws 0 (addWords i x)) where
-        entry : entriesOf ws 0 1 ≡ addWords i x ∷ []
-        entry = put-one w₀ ws (addWords i x) put .entries
-
-        same-append : entriesOnly root (entriesOf ws 0 1) ≡ createAppend m (m 0) (m 1) root x
-        unfolding createAppend invalidInode
-        same-append = rw (entry, ← same-inode)
-
-        same-words : newWords m (m 0) (m 1) (entriesOnly root (entriesOf ws 0 1)) i ≡ filledWords v (create x)
-        unfolding newWords groups createGroups invalidInode
-        same-words = rw (same-append, same-view, ← same-inode)
-
-        pub create-room : length (newWords m (m 0) (m 1) (entriesOnly root (entriesOf ws 0 1)) i) ≤ length l
-        unfolding groups
-        create-room = let s = create-short (64 * m 0) (view m) (m 0) (m 1) root x in let k = list-long in rw same-words (omega arith)
-
-        comes : fills (length v) m (length l) (create x) ≡ outcome m (m 0) (m 1) (entriesOnly root (entriesOf ws 0 1)) (newWords m (m 0) (m 1) (entriesOnly root (entriesOf ws 0 1)) i)
-        unfolding outcome
-        comes = create-behind v l r places marks g n e x t first i j ∙ rw (same-words, same-append, same-view)
-
-        -- s and l′ are what `append_created` answered and left
-        module _ (s : Answer) where
-          abbrev left : model.Answer (List ℕ)
-          left = outcome m (m 0) (m 1) (entriesOnly root (entriesOf ws 0 1)) (newWords m (m 0) (m 1) (entriesOnly root (entriesOf ws 0 1)) i)
-
-          pub create-answer : meaning s ≡ numbered (mapAnswer length left) → meaning s ≡ numbered (callAnswer v l (create x))
-          unfolding callAnswer
-          create-answer a = rw comes a
-
-        pub create-list : (l′ : List ℕ) → l′ ≡ filledFrom l (outcome m (m 0) (m 1) (entriesOnly root (entriesOf ws 0 1)) (newWords m (m 0) (m 1) (entriesOnly root (entriesOf ws 0 1)) i)) → l′ ≡ callList v l (create x)
-        unfolding callList
-        create-list l′ a = rw comes a
+      -- w is the entry, as the code has it
+      module _ (w : List ℕ) (o : w ≡ addWords i x) where
+        pub create-comes : (s : Answer) (l′ : List ℕ) → Comes (outcome v (actionOf (rootAppend i 1) w [])) l s l′ → Comes (cameTo v l (create x)) l s l′
+        unfolding groups action actionGroups createAction invalidInode outcome actionChecks
+        create-comes s l′ y =
+            let k = root-outcome i 1 w (addWords i x ∷ []) _ _ (one-named w (addWords i x) o (add-long i x)) (zeroed-new (rootAppend i 1) not-zero refl)
+            (also-new (rootAppend i 1) not-zero) in
+            comes-as (cameTo v l (create x)) (outcome v (actionOf (rootAppend i 1) w [])) l s l′
+            (create-behind v l r places marks g n e x t first i j ∙ rw (same-view, ← same-inode) (sym k)) y
 
   -- Link: t is what the first checks answered.
   module _ (x y : List ℕ) (t : Answer) (h : meaning t ≡ numbered (firstRefusal (linkFirst found x y) (done (inodeOf found x)))) where
-    link-told : NoNumber t → (meaning t ≡ numbered (callAnswer v l (link x y))) × (l ≡ callList v l (link x y))
+    pub link-told : NoNumber t → Comes (cameTo v l (link x y)) l t l
     link-told o = link-refused v l r places marks g n e x y t h o
 
-    pub link-told-answer : NoNumber t → meaning t ≡ numbered (callAnswer v l (link x y))
-    link-told-answer o = link-told o .0
-
-    pub link-told-list : NoNumber t → l ≡ callList v l (link x y)
-    link-told-list o = link-told o .1
-
-    module _ (i : ℕ) (j : t ≡ Number i) (w₀ ws : List ℕ) (put : Put w₀ ws 0 (addWords i y)) where
-      link-append : entriesOnly root (entriesOf ws 0 1) ≡ linkAppend m (m 0) (m 1) root x y
-      unfolding linkAppend
-      link-append = rw (put-one w₀ ws (addWords i y) put .entries, ← (rw same-view at (link-inode v l r places marks g n e x y t h i j)))
-
-      link-words : appendWords m (m 0) (m 1) (entriesOnly root (entriesOf ws 0 1)) (releasing 0) ≡ filledWords v (link x y)
-      unfolding appendWords releasing groups linkGroups
-      link-words = rw (link-append, same-view)
-
-      pub link-room : length (appendWords m (m 0) (m 1) (entriesOnly root (entriesOf ws 0 1)) (releasing 0)) ≤ length l
-      unfolding groups
-      link-room = let s = link-short (64 * m 0) (view m) (m 0) (m 1) root x y in let k = list-long in rw link-words (omega arith)
-
-      link-comes : fills (length v) m (length l) (link x y) ≡ outcome m (m 0) (m 1) (entriesOnly root (entriesOf ws 0 1)) (appendWords m (m 0) (m 1) (entriesOnly root (entriesOf ws 0 1)) (releasing 0))
-      unfolding outcome
-      link-comes = link-behind v l r places marks g n e x y t h i j ∙ rw (link-words, link-append, same-view)
-
-      pub link-answer : (s : Answer) → meaning s ≡ numbered (mapAnswer length (outcome m (m 0) (m 1) (entriesOnly root (entriesOf ws 0 1)) (appendWords m (m 0) (m 1) (entriesOnly root (entriesOf ws 0 1)) (releasing 0))))
-          → meaning s ≡ numbered (callAnswer v l (link x y))
-      unfolding callAnswer
-      link-answer s a = rw link-comes a
-
-      pub link-list : (l′ : List ℕ) → l′ ≡ filledFrom l (outcome m (m 0) (m 1) (entriesOnly root (entriesOf ws 0 1)) (appendWords m (m 0) (m 1) (entriesOnly root (entriesOf ws 0 1)) (releasing 0)))
-          → l′ ≡ callList v l (link x y)
-      unfolding callList
-      link-list l′ a = rw link-comes a
+    module _ (i : ℕ) (j : t ≡ Number i) (w : List ℕ) (o : w ≡ addWords i y) where
+      pub link-comes : (s : Answer) (l′ : List ℕ) → Comes (outcome v (actionOf (rootAppend 0 0) w [])) l s l′ → Comes (cameTo v l (link x y)) l s l′
+      unfolding groups action actionGroups linkAction outcome actionChecks
+      link-comes s l′ z =
+          let k = root-outcome 0 0 w (addWords i y ∷ []) _ _ (one-named w (addWords i y) o (add-long i y)) (zeroed-none (rootAppend 0 0) refl)
+          (also-nothing (rootAppend 0 0) refl) in
+          comes-as (cameTo v l (link x y)) (outcome v (actionOf (rootAppend 0 0) w [])) l s l′
+          (link-behind v l r places marks g n e x y t h i j ∙ rw (same-view, ← (rw same-view at (link-inode v l r places marks g n e x y t h i j))) (sym k)) z
 
   -- the directory's names lead to inodes of the volume
   same-names : found ≡ rootNames v
   same-names = g .tables n e .names
 
-  root-good : logOk (view m) (m 0) (m 1) root ≡ true
-  unfolding accepted
-  root-good =
-      let w : viewOk (view m) (m 0) (m 1) ≡ true = and-right (journalOk m (m 1)) _ (g .tables n e .good) in
-      and-left _ _ (view-names (view m) (m 0) (m 1) some-inodes w)
+  root-good : logOk m (m 0) (m 1) root ≡ true
+  root-good = let f = closed-fine v marks closed-here in log-ok m (m 0) (m 1) f root some-inodes (root-valid m (m 0) (m 1) f some-inodes)
 
   names-below : (x : List ℕ) → (inodeOf (rootNames v) x ≡ 0 → ⊥) → inodeOf (rootNames v) x < m 1
-  names-below x h = leads (m 1) (rootNames v) (names-in (view m) (m 0) (m 1) root refl root-good) x h .1
+  names-below x h = leads (m 1) (rootNames v) (rw same-view (names-in m (m 0) (m 1) root refl root-good)) x h .1
 
   -- z is what `released` answered of the inode k that the name x leads to
-  module _ (x : List ℕ) (k z : ℕ) (b : z ≡ lastNamed found k) where
-    lost-is : k ≡ inodeOf (rootNames v) x → z ≡ lastNamed (rootNames v) (inodeOf (rootNames v) x)
-    lost-is c = rw (b, same-names, c)
+  module _ (x : List ℕ) (k z : ℕ) (b : z ≡ lastNamed found k) (c : k ≡ inodeOf (rootNames v) x) where
+    lost-is : z ≡ lastNamed (rootNames v) (inodeOf (rootNames v) x)
+    lost-is = rw (b, same-names, c)
 
-    lost-low : k ≡ inodeOf (rootNames v) x → z < m 1
-    lost-low c = rw (lost-is c) (lost-below (rootNames v) (inodeOf (rootNames v) x) (m 1) some-inodes (names-below x))
+    pub lost-low : z < m 1
+    lost-low = rw lost-is (lost-below (rootNames v) (inodeOf (rootNames v) x) (m 1) some-inodes (names-below x))
 
-    lost-release : k ≡ inodeOf (rootNames v) x → releasing z ≡ release m (m 0) (m 1) root x
-    lost-release c = rw (lost-is c) (released-is (view m) (m 0) (m 1) x ∙ ap (λ (f : Mem). release f (m 0) (m 1) root x) same-view)
+    lost-release : alsoCommitted (rootAppend z 0) ≡ release m (m 0) (m 1) root x
+    lost-release = rw lost-is (released-is (view m) (m 0) (m 1) x ∙ ap (λ (f : Mem). release f (m 0) (m 1) root x) same-view)
 
-  -- Unlink: t is what the first checks answered.
+  -- Unlink: t is what the first checks answered, z what `released` did.
   module _ (x : List ℕ) (t : Answer) (h : meaning t ≡ numbered (firstRefusal (unlinkFirst found x) (done (inodeOf found x)))) where
-    unlink-told : NoNumber t → (meaning t ≡ numbered (callAnswer v l (unlink x))) × (l ≡ callList v l (unlink x))
+    pub unlink-told : NoNumber t → Comes (cameTo v l (unlink x)) l t l
     unlink-told o = unlink-refused v l r places marks g n e x t h o
 
-    pub unlink-told-answer : NoNumber t → meaning t ≡ numbered (callAnswer v l (unlink x))
-    unlink-told-answer o = unlink-told o .0
-
-    pub unlink-told-list : NoNumber t → l ≡ callList v l (unlink x)
-    unlink-told-list o = unlink-told o .1
-
-    module _ (i : ℕ) (j : t ≡ Number i) (z : ℕ) (b : z ≡ lastNamed found i) where
-      unlink-i : i ≡ inodeOf (rootNames v) x
+    module _ (i : ℕ) (j : t ≡ Number i) where
+      pub unlink-i : i ≡ inodeOf (rootNames v) x
       unlink-i = unlink-inode v l r places marks g n e x t h i j
 
-      pub unlink-low : z < m 1
-      unlink-low = lost-low x i z b unlink-i
-
-      module _ (w₀ ws : List ℕ) (put : Put w₀ ws 0 (removeWords x)) where
-        abbrev unlinkLeft : List ℕ
-        unlinkLeft = appendWords m (m 0) (m 1) (entriesOnly root (entriesOf ws 0 1)) (releasing z)
-
-        unlink-append : entriesOnly root (entriesOf ws 0 1) ≡ unlinkAppend m (m 0) (m 1) root x
-        unfolding unlinkAppend
-        unlink-append = rw (put-one w₀ ws (removeWords x) put .entries)
-
-        unlink-words : unlinkLeft ≡ filledWords v (unlink x)
-        unfolding appendWords groups unlinkGroups
-        unlink-words = rw (unlink-append, same-view, lost-release x i z b unlink-i)
-
-        pub unlink-room : length unlinkLeft ≤ length l
-        unfolding groups
-        unlink-room = let s = unlink-short (64 * m 0) (view m) (m 0) (m 1) root x in let k = list-long in rw unlink-words (omega arith)
-
-        unlink-comes : fills (length v) m (length l) (unlink x) ≡ outcome m (m 0) (m 1) (entriesOnly root (entriesOf ws 0 1)) unlinkLeft
-        unfolding outcome
-        unlink-comes = unlink-behind v l r places marks g n e x t h i j ∙ rw (unlink-words, unlink-append, same-view)
-
-        pub unlink-answer : (s : Answer) → meaning s ≡ numbered (mapAnswer length (outcome m (m 0) (m 1) (entriesOnly root (entriesOf ws 0 1)) unlinkLeft))
-            → meaning s ≡ numbered (callAnswer v l (unlink x))
-        unfolding callAnswer
-        unlink-answer s a = rw unlink-comes a
-
-        pub unlink-list : (l′ : List ℕ) → l′ ≡ filledFrom l (outcome m (m 0) (m 1) (entriesOnly root (entriesOf ws 0 1)) unlinkLeft) → l′ ≡ callList v l (unlink x)
-        unfolding callList
-        unlink-list l′ a = rw unlink-comes a
+      module _ (z : ℕ) (b : z ≡ lastNamed found i) (w : List ℕ) (o : w ≡ removeWords x) where
+        pub unlink-comes : (s : Answer) (l′ : List ℕ) → Comes (outcome v (actionOf (rootAppend z 0) w [])) l s l′ → Comes (cameTo v l (unlink x)) l s l′
+        unfolding groups action actionGroups unlinkAction outcome actionChecks
+        unlink-comes s l′ y =
+            let k = root-outcome z 0 w (removeWords x ∷ []) _ _ (one-named w (removeWords x) o (remove-long x)) (zeroed-none (rootAppend z 0) refl)
+            (lost-release x i z b unlink-i) in
+            comes-as (cameTo v l (unlink x)) (outcome v (actionOf (rootAppend z 0) w [])) l s l′
+            (unlink-behind v l r places marks g n e x t h i j ∙ rw same-view (sym k)) y
 
   -- Rename: t is what the first checks answered, k what `find_name` answered of the new name.
   module _ (x y : List ℕ) (t : Answer) (h : meaning t ≡ numbered (firstRefusal (renameFirst found x y) (done (inodeOf found x)))) where
-    rename-told : NoNumber t → (meaning t ≡ numbered (callAnswer v l (rename x y))) × (l ≡ callList v l (rename x y))
+    pub rename-told : NoNumber t → Comes (cameTo v l (rename x y)) l t l
     rename-told o = rename-refused v l r places marks g n e x y t h o
 
-    pub rename-told-answer : NoNumber t → meaning t ≡ numbered (callAnswer v l (rename x y))
-    rename-told-answer o = rename-told o .0
-
-    pub rename-told-list : NoNumber t → l ≡ callList v l (rename x y)
-    rename-told-list o = rename-told o .1
-
     module _ (i : ℕ) (j : t ≡ Number i) (k : ℕ) (d : k ≡ inodeOf found y) where
-      rename-i : i ≡ inodeOf (rootNames v) x
+      pub rename-i : i ≡ inodeOf (rootNames v) x
       rename-i = rename-inode v l r places marks g n e x y t h i j
 
-      rename-k : k ≡ inodeOf (rootNames v) y
+      pub rename-k : k ≡ inodeOf (rootNames v) y
       rename-k = rw same-names at d
 
       same-test : sameInode (view m) (m 0) (m 1) root x y ≡ eqb i k
       unfolding sameInode
       same-test = rw (← rename-i, ← rename-k)
 
-      rename-left : fills (length v) m (length l) (rename x y)
-          ≡ firstRefusal ((not (sameInode (view m) (m 0) (m 1) root x y) && noRoom (view m) (m 0) (m 1) (renameAppend (view m) (m 0) (m 1) root x y), 12) ∷ []) (done (filledWords v (rename x y)))
-      rename-left = rename-behind v l r places marks g n e x y t h i j
+      -- both names lead to one inode
+      pub rename-same : i ≡ k → Comes (cameTo v l (rename x y)) l (Number 0) l
+      unfolding groups action actionGroups renameAction storeList
+      rename-same o =
+          comes-none (cameTo v l (rename x y)) l (rename-behind v l r places marks g n e x y t h i j ∙ rw (same-test, eq-eqb i k o))
 
-      -- both names lead to one inode: nothing is filled
-      module _ (o : i ≡ k) where
-        rename-same : fills (length v) m (length l) (rename x y) ≡ done []
-        unfolding groups renameGroups storeList
-        rename-same = rename-left ∙ rw (same-test, eq-eqb i k o)
+      -- e₀ and e₁ are the two entries, as the code has them
+      module _ (o : i ≡ k → ⊥) (z : ℕ) (b : z ≡ lastNamed found k) (e₀ e₁ w₀ w₁ ws : List ℕ) (p₀ : e₀ ≡ removeWords x) (q₀ : Put w₀ w₁ 0 e₀)
+          (p₁ : e₁ ≡ addWords i y) (q₁ : Put w₁ ws 1 e₁) (f : length w₀ ≡ 16) where
+        two-long : length ws ≡ 16
+        two-long = q₁ .long ∙ q₀ .long ∙ f
 
-        pub same-answer : done (some 0) ≡ numbered (callAnswer v l (rename x y))
-        unfolding callAnswer
-        same-answer = rw rename-same
+        two-entries : entriesOf ws 0 (length ws / 8) ≡ removeWords x ∷ addWords i y ∷ []
+        two-entries = rw (two-long, ← p₀, ← p₁) (put-two w₀ w₁ ws e₀ e₁ q₀ q₁ .entries)
 
-        pub same-list : l ≡ callList v l (rename x y)
-        unfolding callList
-        same-list = rw rename-same
-
-      module _ (o : i ≡ k → ⊥) (z : ℕ) (b : z ≡ lastNamed found k) where
-        pub rename-low : z < m 1
-        rename-low = lost-low y k z b rename-k
-
-        module _ (w₀ w₁ ws : List ℕ) (put : Put w₀ w₁ 0 (removeWords x)) (put₂ : Put w₁ ws 1 (addWords i y)) where
-          abbrev renameLeft : List ℕ
-          renameLeft = appendWords m (m 0) (m 1) (entriesOnly root (entriesOf ws 0 2)) (releasing z)
-
-          rename-append : entriesOnly root (entriesOf ws 0 2) ≡ renameAppend m (m 0) (m 1) root x y
-          unfolding renameAppend
-          rename-append = rw (put-two w₀ w₁ ws (removeWords x) (addWords i y) put put₂ .entries, ← (rw same-view at rename-i))
-
-          rename-words : renameLeft ≡ filledWords v (rename x y)
-          unfolding appendWords groups renameGroups
-          rename-words = rw (same-test, ne-eqb i k o, rename-append, same-view, lost-release y k z b rename-k)
-
-          pub rename-room : length renameLeft ≤ length l
-          unfolding groups
-          rename-room = let s = rename-short (64 * m 0) (view m) (m 0) (m 1) root x y in let f = list-long in rw rename-words (omega arith)
-
-          rename-comes : fills (length v) m (length l) (rename x y) ≡ outcome m (m 0) (m 1) (entriesOnly root (entriesOf ws 0 2)) renameLeft
-          unfolding outcome
-          rename-comes = rename-left ∙ rw (same-test, ne-eqb i k o, rename-words, rename-append, same-view)
-
-          pub rename-answer : (s : Answer) → meaning s ≡ numbered (mapAnswer length (outcome m (m 0) (m 1) (entriesOnly root (entriesOf ws 0 2)) renameLeft))
-              → meaning s ≡ numbered (callAnswer v l (rename x y))
-          unfolding callAnswer
-          rename-answer s a = rw rename-comes a
-
-          pub rename-list : (l′ : List ℕ) → l′ ≡ filledFrom l (outcome m (m 0) (m 1) (entriesOnly root (entriesOf ws 0 2)) renameLeft) → l′ ≡ callList v l (rename x y)
-          unfolding callList
-          rename-list l′ a = rw rename-comes a
-
--- The same room for a list of L words, of which only the length is known.
-pub rename-fits : (v : List ℕ) (L : ℕ) (r : Answer) (places marks : List ℕ) → Gated v root (fillChecks (length v) (word v) L) r places marks → (n : ℕ) → r ≡ Number n
-    → (x y : List ℕ) (t : Answer)
-    → meaning t ≡ numbered (firstRefusal (renameFirst (standing (word v) (take n places)) x y) (done (inodeOf (standing (word v) (take n places)) x)))
-    → (i : ℕ) → t ≡ Number i → (k : ℕ) → k ≡ inodeOf (standing (word v) (take n places)) y → (i ≡ k → ⊥) → (z : ℕ) → z ≡ lastNamed (standing (word v) (take n places)) k
-    → (w₀ w₁ ws : List ℕ) → Put w₀ w₁ 0 (removeWords x) → Put w₁ ws 1 (addWords i y)
-    → length (appendWords (word v) (word v 0) (word v 1) (entriesOnly root (entriesOf ws 0 2)) (releasing z)) ≤ L
-rename-fits v L r places marks g n e x y t h i j k d o z b w₀ w₁ ws p₁ p₂ =
-    let q : length (replicate {A = ℕ} L 0) ≡ L = length-replicate L 0 in
-    rw q at (rename-room v (replicate L 0) r places marks (rw q g) n e x y t h i j k d o z b w₀ w₁ ws p₁ p₂)
+        pub rename-comes : (s : Answer) (l′ : List ℕ) → Comes (outcome v (actionOf (rootAppend z 0) ws [])) l s l′ → Comes (cameTo v l (rename x y)) l s l′
+        unfolding groups action actionGroups renameAction outcome actionChecks
+        rename-comes s l′ c =
+            let a = root-outcome z 0 ws (removeWords x ∷ addWords i y ∷ []) _ _ two-entries (zeroed-none (rootAppend z 0) refl) (lost-release y k z b rename-k) in
+            comes-as (cameTo v l (rename x y)) (outcome v (actionOf (rootAppend z 0) ws [])) l s l′
+            (rename-behind v l r places marks g n e x y t h i j ∙ rw (same-test, ne-eqb i k o, same-view, ← (rw same-view at rename-i)) (sym a)) c

@@ -1,115 +1,35 @@
 // The calls that change names: create, link, unlink and rename. Each takes any bytes and numbers, works from the lent volume v alone and
 // fills a lent store list; a refusal leaves the list as it was.
 ghost use mathlib.Core.Path.{_≡_};
-ghost use Prim.Native.Nat.{_≤_, _<_};
-ghost use lib.ListN.{length, replicate, take};
+ghost use mathlib.Core.List.{[]};
+ghost use lib.ListN.{length, take};
 ghost use Rattle.model.specs.Words.{word};
-ghost use Rattle.model.specs.Layout.{root};
-ghost use Rattle.model.specs.Answer.{mapAnswer, filledFrom};
-ghost use Rattle.model.specs.Calls.{entriesOnly};
 ghost use Rattle.model.specs.FileMap.{create, link, unlink, rename};
-ghost use Rattle.model.specs.Public.{callAnswer, callList};
 ghost use Rattle.directory.specs.Places.{standing, Filled};
-ghost use Rattle.group.specs.Plan.{entriesOf};
-ghost use Rattle.answer.specs.Meaning.{meaning, numbered};
-ghost use Rattle.naming.specs.Appended.{Closed, RootTaken, releasing, lastNamed, appendWords, newWords, outcome};
+ghost use Rattle.answer.specs.Comes.{Comes, Fills};
+ghost use Rattle.append.specs.Appended.{actionOf, outcome, Ready};
+ghost use Rattle.naming.specs.Root.{rootAppend, lastNamed};
 use answer::Answer;
-use plan::Append;
-use room::Room;
+use append::Append;
 
-// The word that holds the tail of the directory.
-const ROOT_TAIL: usize = 66;
-
-// Takes the pages for an append of some entries, two at most, to the directory's log. Answers as room::take_pages does.
-// Example: where the directory's tail page has room for an entry, take_root(v, marks, 1, table) has enough pages and no fresh one.
-fn take_root(v: &[u8], marks: &[u8; 4096], entries: usize, table: &mut [u64; 40]) -> Room
-    requires { ⌜ Closed (now v) (now marks) × (entries ≤ 2) × (now table ≡ replicate 40 0) ⌝ }
-    ensures { λ r. ⌜ RootTaken (now (v .entry)) entries r (now (table .exit)) ⌝ }
-{
-    let pages = words::word_at(v, header::PAGES_WORD) as usize;
-    let inodes = words::word_at(v, header::INODES_WORD) as usize;
-    let tail = words::word_at(v, ROOT_TAIL);
-    room::take_pages(marks, pages, inodes, tail, entries, 0, table)
-}
-
-// Appends entries, the first ones of the table, to the directory's log; where released is not 0, the valid word of that inode becomes 0
-// together with the tail. Answers Number with the count of words filled, or NoSpace.
-// Example: where the directory's tail page has room for an entry, one entry fills 22 words, and 40 where an inode is released.
-fn append_entries(
+// Appends entries, eight words each, to the directory's log; together with its tail the valid word of inode other, if that is not 0,
+// becomes valid. Answers Number with the count of words filled, or NoSpace.
+// Example: where the directory's tail page has room for an entry, one entry fills 22 words, and 40 where inode 1 is let go.
+fn append_root(
     v: &[u8],
-    marks: &[u8; 4096],
-    words: &[u64; 1792],
-    entries: usize,
-    released: usize,
+    marks: &mut [u8; 4096],
+    entries: &[u64],
+    other: usize,
+    valid: u64,
     list: &mut [u64],
 ) -> Answer
-    requires { ⌜ Closed (now v) (now marks) × (entries ≤ 2) × (released < word (now v) 1)
-        × (length (appendWords (word (now v)) (word (now v) 0) (word (now v) 1) (entriesOnly root (entriesOf (now words) 0 entries)) (releasing released)) ≤ length (now list)) ⌝ }
-    ensures { λ r. ⌜ (meaning r ≡ numbered (mapAnswer length (outcome (word (now (v .entry))) (word (now (v .entry)) 0) (word (now (v .entry)) 1)
-        (entriesOnly root (entriesOf (now (words .entry)) 0 entries))
-        (appendWords (word (now (v .entry))) (word (now (v .entry)) 0) (word (now (v .entry)) 1) (entriesOnly root (entriesOf (now (words .entry)) 0 entries)) (releasing released)))))
-        × (now (list .exit) ≡ filledFrom (now (list .entry)) (outcome (word (now (v .entry))) (word (now (v .entry)) 0) (word (now (v .entry)) 1)
-        (entriesOnly root (entriesOf (now (words .entry)) 0 entries))
-        (appendWords (word (now (v .entry))) (word (now (v .entry)) 0) (word (now (v .entry)) 1) (entriesOnly root (entriesOf (now (words .entry)) 0 entries)) (releasing released)))) ⌝ }
+    requires { ⌜ Ready (now v) (now marks) (rootAppend other valid) (now entries) [] (now list) ⌝ }
+    ensures { λ r. ⌜ Comes (outcome (now (v .entry)) (actionOf (rootAppend other valid) (now (entries .entry)) [])) (now (list .entry)) r
+        (now (list .exit)) ⌝ }
 {
-    let mut table = [0u64; 40];
-    let room = take_root(v, marks, entries, &mut table);
-    if !room.enough {
-        return Answer::NoSpace;
-    }
-    let pages = words::word_at(v, header::PAGES_WORD) as usize;
-    let a = Append {
-        inode: 0,
-        fresh: room.fresh,
-        entries,
-        start: room.start,
-        count: 0,
-    };
-    let fresh = [0u64; 576];
-    if released == 0 {
-        return Answer::Number(
-            append::append_one(v, list, &mut table, words, &fresh, a, pages) as u64,
-        );
-    }
-    Answer::Number(
-        append::append_two(v, list, &mut table, words, &fresh, a, pages, released, 0) as u64,
-    )
-}
-
-// Appends the first entry of the table to the directory's log; inode i becomes a valid file with an empty log together with the tail.
-// Answers Number with the count of words filled, or NoSpace.
-// Example: where the directory's tail page has room for an entry, it fills 44 words, and where the log needs a page, 46.
-fn append_created(
-    v: &[u8],
-    marks: &[u8; 4096],
-    words: &[u64; 1792],
-    i: usize,
-    list: &mut [u64],
-) -> Answer
-    requires { ⌜ Closed (now v) (now marks) × (0 < i) × (i < word (now v) 1)
-        × (length (newWords (word (now v)) (word (now v) 0) (word (now v) 1) (entriesOnly root (entriesOf (now words) 0 1)) i) ≤ length (now list)) ⌝ }
-    ensures { λ r. ⌜ (meaning r ≡ numbered (mapAnswer length (outcome (word (now (v .entry))) (word (now (v .entry)) 0) (word (now (v .entry)) 1)
-        (entriesOnly root (entriesOf (now (words .entry)) 0 1))
-        (newWords (word (now (v .entry))) (word (now (v .entry)) 0) (word (now (v .entry)) 1) (entriesOnly root (entriesOf (now (words .entry)) 0 1)) i))))
-        × (now (list .exit) ≡ filledFrom (now (list .entry)) (outcome (word (now (v .entry))) (word (now (v .entry)) 0) (word (now (v .entry)) 1)
-        (entriesOnly root (entriesOf (now (words .entry)) 0 1))
-        (newWords (word (now (v .entry))) (word (now (v .entry)) 0) (word (now (v .entry)) 1) (entriesOnly root (entriesOf (now (words .entry)) 0 1)) i))) ⌝ }
-{
-    let mut table = [0u64; 40];
-    let room = take_root(v, marks, 1, &mut table);
-    if !room.enough {
-        return Answer::NoSpace;
-    }
-    let pages = words::word_at(v, header::PAGES_WORD) as usize;
-    let a = Append {
-        inode: 0,
-        fresh: room.fresh,
-        entries: 1,
-        start: room.start,
-        count: 0,
-    };
-    let fresh = [0u64; 576];
-    Answer::Number(append::append_new(v, list, &mut table, words, &fresh, a, pages, i) as u64)
+    let none = [0u64; 1];
+    let a = Append::to(layout::ROOT).with(other, valid);
+    append::make(v, marks, a, entries, &none[..0], list)
 }
 
 // Makes a new, empty file with a name: fills the list with the stores that add the name and make the lowest invalid inode valid. Answers
@@ -117,23 +37,21 @@ fn append_created(
 // Refusals: ShortMemory, NoVolume, Damaged, JournalOpen, BadName, Taken, NoInode, DirectoryFull, NoSpace.
 // Example: of 16 pages just formatted with 8 inodes create(v, b"A1", list) is Number(46); carried out, "A1" leads to inode 1.
 pub fn create(v: &[u8], name: &[u8], list: &mut [u64]) -> Answer
-    ensures { λ r. ⌜ (meaning r ≡ numbered (callAnswer (now (v .entry)) (now (list .entry)) (create (now (name .entry)))))
-        × (now (list .exit) ≡ callList (now (v .entry)) (now (list .entry)) (create (now (name .entry)))) ⌝ }
+    ensures { λ r. ⌜ Fills (now (v .entry)) (now (list .entry)) (create (now (name .entry))) r (now (list .exit)) ⌝ }
 {
     let mut places = [0u16; 224];
     let mut marks = [0u8; 4096];
-    let gate = gate::filling(v, list.len(), gate::ROOT, &mut places, &mut marks);
+    let gate = gate::filling(v, list.len(), layout::ROOT, &mut places, &mut marks);
     let Answer::Number(count) = gate else {
         return gate;
     };
-    let inodes = words::word_at(v, header::INODES_WORD);
+    let inodes = words::word_at(v, layout::INODES_WORD);
     let found = checks::create_checks(v, &places, count as usize, name, inodes);
     let Answer::Number(inode) = found else {
         return found;
     };
-    let mut words = [0u64; 1792];
-    entries::put_add(&mut words, 0, inode, name);
-    append_created(v, &marks, &words, inode as usize, list)
+    let e = entries::add_words(inode, name);
+    append_root(v, &mut marks, &e, inode as usize, 1, list)
 }
 
 // Gives a file a further name: fills the list with the stores that add the new name for the inode of the old one. Answers Number with the
@@ -141,12 +59,11 @@ pub fn create(v: &[u8], name: &[u8], list: &mut [u64]) -> Answer
 // Refusals: ShortMemory, NoVolume, Damaged, JournalOpen, BadName, NotThere, Taken, DirectoryFull, NoSpace.
 // Example: where "A1" is the only name, link(v, b"A1", b"A2", list) is Number(22), and link(v, b"A1", b"A1", list) Taken.
 pub fn link(v: &[u8], old: &[u8], new: &[u8], list: &mut [u64]) -> Answer
-    ensures { λ r. ⌜ (meaning r ≡ numbered (callAnswer (now (v .entry)) (now (list .entry)) (link (now (old .entry)) (now (new .entry)))))
-        × (now (list .exit) ≡ callList (now (v .entry)) (now (list .entry)) (link (now (old .entry)) (now (new .entry)))) ⌝ }
+    ensures { λ r. ⌜ Fills (now (v .entry)) (now (list .entry)) (link (now (old .entry)) (now (new .entry))) r (now (list .exit)) ⌝ }
 {
     let mut places = [0u16; 224];
     let mut marks = [0u8; 4096];
-    let gate = gate::filling(v, list.len(), gate::ROOT, &mut places, &mut marks);
+    let gate = gate::filling(v, list.len(), layout::ROOT, &mut places, &mut marks);
     let Answer::Number(count) = gate else {
         return gate;
     };
@@ -154,9 +71,8 @@ pub fn link(v: &[u8], old: &[u8], new: &[u8], list: &mut [u64]) -> Answer
     let Answer::Number(inode) = found else {
         return found;
     };
-    let mut words = [0u64; 1792];
-    entries::put_add(&mut words, 0, inode, new);
-    append_entries(v, &marks, &words, 1, 0, list)
+    let e = entries::add_words(inode, new);
+    append_root(v, &mut marks, &e, 0, 0, list)
 }
 
 // Answers the inode, if exactly one of the names at the first count places leads to it; else 0.
@@ -179,12 +95,11 @@ fn released(v: &[u8], places: &[u16; 224], count: usize, inode: u64) -> u64
 // Refusals: ShortMemory, NoVolume, Damaged, JournalOpen, BadName, NotThere, NoSpace.
 // Example: where "A1" is the only name of inode 1, unlink(v, b"A1", list) is Number(40).
 pub fn unlink(v: &[u8], name: &[u8], list: &mut [u64]) -> Answer
-    ensures { λ r. ⌜ (meaning r ≡ numbered (callAnswer (now (v .entry)) (now (list .entry)) (unlink (now (name .entry)))))
-        × (now (list .exit) ≡ callList (now (v .entry)) (now (list .entry)) (unlink (now (name .entry)))) ⌝ }
+    ensures { λ r. ⌜ Fills (now (v .entry)) (now (list .entry)) (unlink (now (name .entry))) r (now (list .exit)) ⌝ }
 {
     let mut places = [0u16; 224];
     let mut marks = [0u8; 4096];
-    let gate = gate::filling(v, list.len(), gate::ROOT, &mut places, &mut marks);
+    let gate = gate::filling(v, list.len(), layout::ROOT, &mut places, &mut marks);
     let Answer::Number(count) = gate else {
         return gate;
     };
@@ -193,9 +108,8 @@ pub fn unlink(v: &[u8], name: &[u8], list: &mut [u64]) -> Answer
         return found;
     };
     let last = released(v, &places, count as usize, inode);
-    let mut words = [0u64; 1792];
-    entries::put_remove(&mut words, 0, name);
-    append_entries(v, &marks, &words, 1, last as usize, list)
+    let e = entries::remove_words(name);
+    append_root(v, &mut marks, &e, last as usize, 0, list)
 }
 
 // Gives a file another name in place of one: fills the list with the stores that remove the old name, add the new one for its inode and,
@@ -204,12 +118,11 @@ pub fn unlink(v: &[u8], name: &[u8], list: &mut [u64]) -> Answer
 // Refusals: ShortMemory, NoVolume, Damaged, JournalOpen, BadName, NotThere, NoSpace.
 // Example: where "A1" is the only name, rename(v, b"A1", b"A2", list) is Number(38), and rename(v, b"A1", b"A1", list) Number(0).
 pub fn rename(v: &[u8], old: &[u8], new: &[u8], list: &mut [u64]) -> Answer
-    ensures { λ r. ⌜ (meaning r ≡ numbered (callAnswer (now (v .entry)) (now (list .entry)) (rename (now (old .entry)) (now (new .entry)))))
-        × (now (list .exit) ≡ callList (now (v .entry)) (now (list .entry)) (rename (now (old .entry)) (now (new .entry)))) ⌝ }
+    ensures { λ r. ⌜ Fills (now (v .entry)) (now (list .entry)) (rename (now (old .entry)) (now (new .entry))) r (now (list .exit)) ⌝ }
 {
     let mut places = [0u16; 224];
     let mut marks = [0u8; 4096];
-    let gate = gate::filling(v, list.len(), gate::ROOT, &mut places, &mut marks);
+    let gate = gate::filling(v, list.len(), layout::ROOT, &mut places, &mut marks);
     let Answer::Number(count) = gate else {
         return gate;
     };
@@ -222,8 +135,8 @@ pub fn rename(v: &[u8], old: &[u8], new: &[u8], list: &mut [u64]) -> Answer
         return Answer::Number(0);
     }
     let last = released(v, &places, count as usize, taken);
-    let mut words = [0u64; 1792];
-    entries::put_remove(&mut words, 0, old);
-    entries::put_add(&mut words, 1, inode, new);
-    append_entries(v, &marks, &words, 2, last as usize, list)
+    let mut words = [0u64; 16];
+    entries::put_entry(&mut words, 0, &entries::remove_words(old));
+    entries::put_entry(&mut words, 1, &entries::add_words(inode, new));
+    append_root(v, &mut marks, &words, last as usize, 0, list)
 }

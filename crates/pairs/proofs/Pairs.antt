@@ -1,14 +1,5 @@
 -- The cases of the loops over pairs: at an even place of a list of even length the rest is one pair and the rest after it.
-use Prim.Native.Nat.{ℕ, suc, _+_, _-_, _*_, _/_, _%_, _≤_, _<_}
-use mathlib.Core.Path.{_≡_, refl, sym, _∙_}
-use mathlib.Core.Bool.{Bool, true, false, not}
-use mathlib.Core.List.{List, [], _∷_}
-use native.Mathlib.Omega.{arith}
-use native.Mathlib.Numerals.{add-one, add-two}
-use borrow.Author.Tests.{ltb-true, eq-eqb, ne-eqb, not-true, not-false}
-use lib.Dec.{eqb}
-use lib.ListN.{length, getD, drop, drop-of-length-le}
-use lib.Seq.{drop-cons}
+use Rattle.model.proofs.Prelude.{ℕ, suc, _+_, _-_, _*_, _/_, _%_, _≤_, _<_, _≡_, Bool, true, false, not, List, _∷_, arith, add-one, add-two, ltb-true, eq-eqb, ne-eqb, not-true, not-false, eqb, length, getD, drop, drop-of-length-le, drop-cons}
 use Rattle.model.specs.Words.{putWord}
 use Rattle.model.specs.Stores.{fence, carried}
 use Rattle.model.specs.Public.{pairsOk, endsInFence}

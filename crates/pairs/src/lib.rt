@@ -6,9 +6,7 @@ ghost use lib.ListN.{length};
 ghost use Rattle.model.specs.Stores.{carried};
 ghost use Rattle.model.specs.Public.{pairsOk, endsInFence};
 ghost use Rattle.pairs.specs.Pairs.{pairOk, pairStored};
-
-// The word index of a fence: "The pair 2^64−1, 0 is a fence."
-const FENCE: u64 = 18446744073709551615;
+use layout::FENCE;
 
 // Answers whether a pair of word index and value is a fence or a store into a volume of so many words.
 // Example: of 1,024 words pair_ok(1023, 7, 1024) and pair_ok(FENCE, 0, 1024) are true; pair_ok(1024, 7, 1024) and

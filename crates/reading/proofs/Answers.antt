@@ -1,14 +1,5 @@
 -- The calls that read a volume: behind the gate the call's own checks decide, and the gate's tables hold what the rest is read from.
-use Prim.Native.Nat.{ℕ, zero, suc, _+_, _-_, _*_, min, _≤_, _<_}
-use mathlib.Core.Path.{_≡_, refl, sym, _∙_, ap}
-use mathlib.Core.Bool.{Bool, true, false, not}
-use mathlib.Core.List.{List, [], _∷_, _++_, map}
-use mathlib.Core.Option.{Option, some}
-use native.Mathlib.Omega.{arith}
-use borrow.Author.Tests.{lt-ltb, le-ltb, le-leb, lt-leb, eq-eqb, ne-eqb, not-true, not-false}
-use lib.Dec.{leb}
-use lib.ListN.{length, take, drop, getD, length-take}
-use lib.Seq.{getD-take, length-take-le}
+use Rattle.model.proofs.Prelude.{ℕ, zero, suc, _+_, _-_, _*_, min, _≤_, _<_, _≡_, refl, sym, _∙_, ap, Bool, true, false, not, List, [], _∷_, _++_, map, Option, some, arith, lt-ltb, le-ltb, le-leb, lt-leb, eq-eqb, ne-eqb, not-true, not-false, leb, length, take, drop, getD, length-take, getD-take, length-take-le}
 use Rattle.model.specs.Lists.{valuesFrom}
 use Rattle.model.specs.Words.{Mem, word}
 use Rattle.model.specs.Layout.{root}

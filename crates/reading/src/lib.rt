@@ -4,6 +4,7 @@ ghost use mathlib.Core.Path.{_≡_};
 ghost use Rattle.model.specs.Public.{findAnswer, freeAnswer, kthNameAnswer, kthNameBuffer, sizeAnswer, readAnswer, readBuffer};
 ghost use Rattle.answer.specs.Meaning.{meaning, numbered};
 use answer::Answer;
+use layout::Sizes;
 
 // Answers Number with the count of free pages.
 // Refusals: NoVolume, Damaged, JournalOpen.
@@ -13,13 +14,12 @@ pub fn free_count(v: &[u8]) -> Answer
 {
     let mut places = [0u16; 224];
     let mut marks = [0u8; 4096];
-    let gate = gate::closed(v, gate::ROOT, &mut places, &mut marks);
+    let gate = gate::closed(v, layout::ROOT, &mut places, &mut marks);
     let Answer::Number(_) = gate else {
         return gate;
     };
-    let pages = words::word_at(v, header::PAGES_WORD) as usize;
-    let inodes = words::word_at(v, header::INODES_WORD) as usize;
-    Answer::Number(inodes::free_count(&marks, pages, inodes))
+    let sizes = Sizes::of(v);
+    Answer::Number(inodes::free_count(&marks, sizes.pages, sizes.inodes))
 }
 
 // Looks a name up and answers Number with its inode.
@@ -30,7 +30,7 @@ pub fn find(v: &[u8], name: &[u8]) -> Answer
 {
     let mut places = [0u16; 224];
     let mut marks = [0u8; 4096];
-    let gate = gate::closed(v, gate::ROOT, &mut places, &mut marks);
+    let gate = gate::closed(v, layout::ROOT, &mut places, &mut marks);
     let Answer::Number(count) = gate else {
         return gate;
     };
@@ -53,12 +53,12 @@ pub fn kth_name(v: &[u8], k: u64, buffer: &mut [u8]) -> Answer
     ensures { λ r. ⌜ (meaning r ≡ numbered (kthNameAnswer (now (v .entry)) k (now (buffer .entry))))
         × (now (buffer .exit) ≡ kthNameBuffer (now (v .entry)) k (now (buffer .entry))) ⌝ }
 {
-    if buffer.len() < 32 {
+    if buffer.len() < layout::NAME_BYTES {
         return Answer::ShortMemory;
     }
     let mut places = [0u16; 224];
     let mut marks = [0u8; 4096];
-    let gate = gate::closed(v, gate::ROOT, &mut places, &mut marks);
+    let gate = gate::closed(v, layout::ROOT, &mut places, &mut marks);
     let Answer::Number(count) = gate else {
         return gate;
     };

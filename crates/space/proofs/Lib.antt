@@ -1,5 +1,6 @@
--- Free and Table have the laws for crates above; Runs and Pages have the cases of this crate's functions.
+-- Free, Few, Runs and Taken have laws for crates above; Lowest has further cases of this crate's functions.
 pub mod Free
-pub mod Table
-mod Runs
-mod Pages
+pub mod Few
+pub mod Runs
+mod Lowest
+pub mod Taken

@@ -1,90 +1,91 @@
--- The cases of the search for a run: a marked page ends every run that would hold it, so that the search goes on behind it.
-use Prim.Native.Nat.{ℕ, zero, suc, _+_, _-_, _/_, _≤_, _<_}
-use mathlib.Core.Path.{_≡_, refl, sym, _∙_, ap}
-use mathlib.Core.Bool.{Bool, true, false}
-use mathlib.Core.List.{List}
-use native.Mathlib.Omega.{arith}
-use native.Mathlib.Nat.{add-zero, zero-add, sub-zero}
-use lib.Dec.{eqb, ltb}
-use borrow.Author.Tests.{le-ltb}
-use Rattle.model.specs.Lists.{bit, allBelow, lowest, orElse}
+-- The cases of the search for a run: a page that may not be taken ends every run that would hold it, so that the search goes on behind it.
+use Rattle.model.proofs.Prelude.{ℕ, zero, suc, _+_, _-_, _/_, _≤_, _<_, _≡_, refl, sym, ap, Bool, true, false, List, Option, none, some, arith, sub-zero, ltb, le-ltb}
+use Rattle.model.specs.Lists.{allBelow, lowest, orElse}
 use Rattle.model.specs.Layout.{inPages}
-use Rattle.model.proofs.Tests.{by-bool, clash, not-true-false}
-use Rattle.model.proofs.Lists.{allBelow-at}
+use Rattle.model.specs.Calls.{lowestRun}
+use Rattle.model.proofs.Tests.{by-bool, by-eq, clash, not-true-false, and-left}
+use Rattle.model.proofs.Lists.{allBelow-at, lowest-is}
+use Rattle.model.proofs.Frame.Placed.{in-bounds}
 use Rattle.marks.specs.Marks.{unmarked}
-use Rattle.space.specs.Space.{isRun, unmarkedRun}
+use Rattle.space.proofs.Lowest.{lowest-found, lowest-past, lowest-nowhere}
 
--- a test from its count: x is what `unmarked_at` answered
-pub bit-is : (t : Bool) (x : ℕ) → x ≡ bit t → eqb x 1 ≡ t
-unfolding bit
-bit-is true x e = rw e
-bit-is false x e = rw e
+-- whether a run of n pages starts at page p
+abbrev isRun : (ℕ → Bool) → ℕ → ℕ → Bool
+isRun f n p = allBelow n (λ i. f (p + i))
 
--- A search goes on behind numbers of which f does not hold: behind a of them, and at e, where it ends before P.
+-- the run of no pages starts at page 0
+pub run-of-none : (f : ℕ → Bool) (P n : ℕ) → n ≡ 0 → 0 ≡ orElse (lowestRun f P n) P
+unfolding lowestRun lowest allBelow
+run-of-none f zero n e = refl
+run-of-none f (suc P) n e = rw e
 
-lowest-past : (f : ℕ → Bool) (a t s : ℕ) → ((q : ℕ) → s ≤ q → q < s + a → f q ≡ false) → lowest f (a + t) s ≡ lowest f t (s + a)
-unfolding lowest
-lowest-past f zero t s h = rw (zero-add t, add-zero s)
-lowest-past f (suc a) t s h =
-    let e : suc a + t ≡ suc (a + t) = omega arith in
-    let g : s + suc a ≡ s + 1 + a = omega arith in
-    rw (e, g, lowest, h s (omega arith) (omega arith)) (lowest-past f a t (s + 1) (λ q l k. h q (omega arith) (omega arith)))
-
-lowest-from : (f : ℕ → Bool) (P s e : ℕ) → s ≤ e → e ≤ P → ((q : ℕ) → s ≤ q → q < e → f q ≡ false) → lowest f (P - s) s ≡ lowest f (P - e) e
-lowest-from f P s e l m h =
-    let a : P - s ≡ e - s + (P - e) = omega arith in
-    let b : s + (e - s) ≡ e = omega arith in
-    rw a (lowest-past f (e - s) (P - e) s (λ q i j. h q i (omega arith)) ∙ ap (λ (x : ℕ). lowest f (P - e) x) b)
-
--- Page P is no page of the volume.
-past-end : (b : List ℕ) (P N : ℕ) → unmarked b P N P ≡ false
+-- page P is no page of the volume
+pub past-end : (b : List ℕ) (P N : ℕ) → unmarked b P N P ≡ false
 unfolding unmarked inPages
 past-end b P N = by-bool (ltb (N / 8) P) (λ e. rw (e, le-ltb P P (omega arith))) (λ e. rw e)
 
--- a run holds no page that is marked
-no-run : (b : List ℕ) (P N n e q : ℕ) → unmarked b P N e ≡ false → q ≤ e → e < q + n → isRun b P N n q ≡ false
-unfolding isRun
-no-run b P N n e q m l k =
+-- a run holds no page that may not be taken
+no-run : (f : ℕ → Bool) (n e q : ℕ) → f e ≡ false → q ≤ e → e < q + n → isRun f n q ≡ false
+no-run f n e q m l k =
     let g : q + (e - q) ≡ e = omega arith in
-    not-true-false _ (λ t. clash _ (rw g at (allBelow-at n (e - q) (λ i. unmarked b P N (q + i)) t (omega arith))) m)
+    not-true-false _ (λ t. clash _ (rw g at (allBelow-at n (e - q) (λ i. f (q + i)) t (omega arith))) m)
 
--- The loop of `lowest_run`: the k pages from s on are not marked, and the search from s on finds what the whole search finds.
-pub record Stretch (b : List ℕ) (P N n s k : ℕ) : Type 0 where
-  pub run : isRun b P N k s ≡ true
-  pub rest : lowest (isRun b P N n) (P - s) s ≡ unmarkedRun b P N n
+-- The loop of `lowest_run`: the k pages from s on may be taken, and the search from s on finds what the whole search finds.
+pub record Begun (f : ℕ → Bool) (P n s k : ℕ) : Type 0 where
+  pub run : isRun f k s ≡ true
+  pub rest : lowest (isRun f n) (P - s) s ≡ lowestRun f P n
 
-module _ (b : List ℕ) (P N n : ℕ) where
-  pub stretch-start : Stretch b P N n 0 0
-  unfolding isRun allBelow unmarkedRun
-  stretch-start = record { run = refl; rest = rw sub-zero }
+module _ (f : ℕ → Bool) (P n : ℕ) where
+  pub begun-none : Begun f P n 0 0
+  unfolding allBelow lowestRun
+  begun-none = record { run = refl; rest = rw sub-zero }
 
-  module _ (s k : ℕ) (y : Stretch b P N n s k) where
-    -- no run starts from s up to t, since page e is marked and each of them would hold it
-    rest-from : (e t : ℕ) → unmarked b P N e ≡ false → e < s + n → t ≤ e + 1 → s ≤ t → t ≤ P
-        → lowest (isRun b P N n) (P - t) t ≡ unmarkedRun b P N n
+  module _ (s k : ℕ) (y : Begun f P n s k) where
+    -- no run starts from s up to t, since page e may not be taken and each of them would hold it
+    rest-from : (e t : ℕ) → f e ≡ false → e < s + n → t ≤ e + 1 → s ≤ t → t ≤ P → lowest (isRun f n) (P - t) t ≡ lowestRun f P n
     rest-from e t m l h i j =
-        sym (lowest-from (isRun b P N n) P s t i j (λ q a c. no-run b P N n e q m (omega arith) (omega arith))) ∙ y .rest
+        lowest-past (isRun f n) P (t - s) s t _ (omega arith) j (λ q a c. no-run f n e q m (omega arith) (omega arith)) (y .rest)
 
-    pub stretch-nowhere : s + k ≤ P → k < n → P ≤ s + k → P ≡ orElse (unmarkedRun b P N n) P
-    unfolding lowest
-    stretch-nowhere i q l =
-        let z : P - P ≡ 0 = omega arith in
-        rw (← rest-from P P (past-end b P N) (omega arith) (omega arith) (omega arith) (omega arith), z)
+    pub begun-nowhere : s + k ≤ P → k < n → P ≤ s + k → f P ≡ false → P ≡ orElse (lowestRun f P n) P
+    begun-nowhere i q l m =
+        lowest-nowhere (isRun f n) P P _ (rest-from P P m (omega arith) (omega arith) (omega arith) (omega arith)) (omega arith)
 
-    -- f is what `is_unmarked` answered of the page behind the stretch
-    module _ (f : Bool) (e : f ≡ unmarked b P N (s + k)) where
-      pub stretch-longer : f ≡ true → Stretch b P N n s (k + 1)
-      unfolding isRun allBelow
-      stretch-longer h =
-          let g : k + 1 ≡ suc k = omega arith in record { run = rw (g, allBelow, sym e ∙ h) (y .run); rest = y .rest }
+    pub begun-longer : f (s + k) ≡ true → Begun f P n s (k + 1)
+    unfolding allBelow
+    begun-longer t = let g : k + 1 ≡ suc k = omega arith in record { run = rw (g, allBelow, t) (y .run); rest = y .rest }
 
-      pub stretch-found : f ≡ true → k + 1 ≡ n → s + k < P → s ≡ orElse (unmarkedRun b P N n) P
-      unfolding lowest
-      stretch-found h q l =
-          let t : isRun b P N n s ≡ true = rw (← q) (stretch-longer h .run) in
-          let g : P - s ≡ suc (P - s - 1) = omega arith in rw (← y .rest, g, lowest, t)
+    pub begun-found : f (s + k) ≡ true → k + 1 ≡ n → s + k < P → s ≡ orElse (lowestRun f P n) P
+    begun-found t q l = lowest-found (isRun f n) P s _ (y .rest) (omega arith) (rw q at (begun-longer t .run))
 
-      pub stretch-behind : f ≡ false → k < n → s + k < P → Stretch b P N n (s + k + 1) 0
-      unfolding isRun allBelow
-      stretch-behind h q l =
-          record { run = refl; rest = rest-from (s + k) (s + k + 1) (sym e ∙ h) (omega arith) (omega arith) (omega arith) (omega arith) }
+    pub begun-behind : f (s + k) ≡ false → k < n → s + k < P → Begun f P n (s + k + 1) 0
+    unfolding allBelow
+    begun-behind m q l =
+        record { run = refl; rest = rest-from (s + k) (s + k + 1) m (omega arith) (omega arith) (omega arith) (omega arith) }
+
+-- What the answer says. An answer r is P where there is nothing: o is what was sought.
+
+none-at : (o : Option ℕ) (P r : ℕ) → r ≡ orElse o P → ((k : ℕ) → o ≡ some k → k < P) → r ≡ P → o ≡ none
+none-at none P r e l q = refl
+none-at (some k) P r e l q = let h = l k refl in absurd (omega arith)
+
+some-at : (o : Option ℕ) (P r : ℕ) → r ≡ orElse o P → (r ≡ P → ⊥) → o ≡ some r
+some-at none P r e q = absurd (q e)
+some-at (some k) P r e q = ap some (sym e)
+
+module _ (f : ℕ → Bool) (P n r : ℕ) (e : r ≡ orElse (lowestRun f P n) P) where
+  pub run-none : r ≡ P → lowestRun f P n ≡ none
+  unfolding lowestRun
+  run-none q = none-at _ P r e (λ k h. omega (arith, lowest-is _ P 0 k h .below)) q
+
+  pub run-some : (r ≡ P → ⊥) → lowestRun f P n ≡ some r
+  run-some q = some-at _ P r e q
+
+-- a run lies in the volume
+pub run-fits : (b : List ℕ) (P N n r : ℕ) → r ≡ orElse (lowestRun (unmarked b P N) P n) P → (r ≡ P → ⊥) → r + n ≤ P
+unfolding lowestRun unmarked
+run-fits b P N n r e q =
+    let l = lowest-is _ P 0 r (run-some (unmarked b P N) P n r e q) in
+    by-eq n 0 (λ z. omega (arith, l .below))
+    (λ z.
+    let f = allBelow-at n (n - 1) (λ i. unmarked b P N (r + i)) (l .holds) (omega arith) in
+    omega (arith, in-bounds P N (r + (n - 1)) (and-left _ _ f) .1))

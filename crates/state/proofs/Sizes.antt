@@ -1,10 +1,5 @@
 -- A file of an accepted volume has a log that is good, so that its state is what the log means.
-use Prim.Native.Nat.{ℕ, _<_}
-use mathlib.Core.Path.{_≡_}
-use mathlib.Core.Bool.{Bool, true, false, not, _&&_, _||_}
-use native.Mathlib.Omega.{arith}
-use borrow.Author.Tests.{le-leb, lt-leb, lt-ltb, le-ltb, eq-eqb, ne-eqb, not-false, leb-false}
-use lib.Dec.{leb}
+use Rattle.model.proofs.Prelude.{ℕ, _<_, _≡_, Bool, true, false, not, _&&_, _||_, arith, le-leb, lt-leb, lt-ltb, le-ltb, eq-eqb, ne-eqb, not-false, leb-false, leb}
 use Rattle.model.specs.Lists.{allBelow}
 use Rattle.model.specs.Words.{Mem}
 use Rattle.model.specs.State.{fileOf}
@@ -29,7 +24,7 @@ pub file-log : (u : Mem) (P N k : ℕ) → viewOk u P N ≡ true → k < N → i
 unfolding viewOk inodeOk
 file-log u P N k h l e =
     let all : allBelow N (inodeOk u P N) ≡ true = search ands in
-    let i = and-right (validOk u k) (not (isValid u k) || (logOk u P N k && (isDirectory k || endOk u (fileOf u P N k)))) (allBelow-at N k (inodeOk u P N) all l) in
+    let i = and-right (validOk u k) (not (isValid u k) || (logOk u P N k && (isDirectory u k || endOk u (fileOf u P N k)))) (allBelow-at N k (inodeOk u P N) all l) in
     by-bool (logOk u P N k) (λ y. y) (λ y. no (rw (e, y) at i))
 
 -- a file that is there: no `no_file`
@@ -44,4 +39,4 @@ module _ (u : Mem) (N k : ℕ) (d : leb N k || not (isFile u k) ≡ false) where
   there-valid = let f = there-file in search (f, ands)
 
   pub there-file-0 : 0 < k
-  there-file-0 = by-eq k 0 (λ e. let n : not (isDirectory k) ≡ true = and-left _ (isValid u k) there-file in no (rw e at n)) (λ e. omega arith)
+  there-file-0 = by-eq k 0 (λ e. let n : not (isDirectory u k) ≡ true = and-left _ (isValid u k) there-file in no (rw e at n)) (λ e. omega arith)

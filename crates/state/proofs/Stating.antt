@@ -1,18 +1,10 @@
 -- The gate's checks come first; a file of an accepted volume has a log that is good, so that its state is what the log means.
-use Prim.Native.Nat.{ℕ, _<_}
-use mathlib.Core.Path.{_≡_, sym, _∙_, ap}
-use mathlib.Core.Bool.{Bool, true, false, not, _||_}
-use mathlib.Core.List.{List}
-use mathlib.Core.Option.{some}
-use native.Mathlib.Omega.{arith}
-use lib.Dec.{leb}
-use lib.ListN.{length}
+use Rattle.model.proofs.Prelude.{ℕ, _<_, _≡_, sym, _∙_, ap, Bool, true, false, not, _||_, List, some, arith, leb, length}
 use Rattle.model.specs.Words.{word}
 use Rattle.model.specs.Layout.{root}
 use Rattle.model.specs.Journal.{journalOk, view}
 use Rattle.model.specs.State.{File, fileOf}
 use Rattle.model.specs.Accept.{isFile, logOk, viewOk, accepted}
-use Rattle.model.specs.Answer.{refused}
 use Rattle.model.specs.Calls.{noFile}
 use Rattle.model.specs.Public.{closedChecks, size, sizeAnswer}
 use Rattle.model.proofs.Tests.{and-right}

@@ -1,13 +1,6 @@
 -- For callers: a file of an accepted volume is at most 65,536 bytes long, its data pages lie inside the volume, and its bytes are those of
 -- the volume as it stands, since the journal is closed.
-use Prim.Native.Nat.{ℕ, _*_, _≤_, _<_}
-use mathlib.Core.Path.{_≡_, refl, sym, _∙_, ap}
-use mathlib.Core.Bool.{true, false, not, _||_}
-use mathlib.Core.List.{List}
-use native.Mathlib.Omega.{arith}
-use borrow.Author.Tests.{ne-eqb}
-use lib.Dec.{leb}
-use lib.ListN.{length}
+use Rattle.model.proofs.Prelude.{ℕ, _≤_, _<_, _≡_, ap, true, false, not, _||_, List, arith, ne-eqb, leb, length}
 use Rattle.model.specs.Words.{Mem, word}
 use Rattle.model.specs.Journal.{journalOk, view}
 use Rattle.model.specs.Log.{entries}
@@ -17,9 +10,7 @@ use Rattle.model.specs.Calls.{noFile}
 use Rattle.model.proofs.Tests.{and-right, ands}
 use Rattle.model.proofs.State.Bytes.{small-file}
 use Rattle.model.proofs.Frame.Inode.{file-placed}
-use Rattle.model.proofs.Crash.Journal.{closed-view}
 use Rattle.model.proofs.Crash.Landing.{volume-parts, sizes-parts}
-use Rattle.files.specs.State.{fileFrom}
 use Rattle.contents.specs.Laid.{Within}
 use Rattle.contents.proofs.Pages.{placed-within}
 use Rattle.answer.specs.declared.Answer.{Answer}

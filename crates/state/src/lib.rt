@@ -9,6 +9,7 @@ ghost use Rattle.model.specs.Accept.{isFile};
 ghost use Rattle.names.specs.Inodes.{Readable};
 ghost use Rattle.state.specs.Stated.{Stated};
 use answer::Answer;
+use layout::Sizes;
 
 // Answers whether an inode is none of a file: out of range, the directory's, or not valid.
 // Example: of a volume just formatted with 8 inodes it is true of every number.
@@ -32,15 +33,14 @@ pub fn file(v: &[u8], inode: u64, marks: &mut [u8; 4096], table: &mut [u64; 128]
     ensures { λ r. ⌜ Stated (now (v .entry)) inode r (now (marks .exit)) (now (table .exit)) ⌝ }
 {
     let mut places = [0u16; 224];
-    let gate = gate::closed(v, gate::ROOT, &mut places, marks);
+    let gate = gate::closed(v, layout::ROOT, &mut places, marks);
     let Answer::Number(_) = gate else {
         return gate;
     };
-    let pages = words::word_at(v, header::PAGES_WORD);
-    let inodes = words::word_at(v, header::INODES_WORD);
-    if no_file(v, inode, inodes) {
+    let sizes = Sizes::of(v);
+    if no_file(v, inode, sizes.inodes as u64) {
         return Answer::NotThere;
     }
-    let size = files::judged_file(v, inode as usize, pages as usize, inodes as usize, table);
+    let size = files::judged_file(v, inode as usize, sizes.pages, sizes.inodes, table);
     Answer::Number(size)
 }

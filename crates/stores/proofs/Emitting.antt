@@ -1,19 +1,12 @@
 -- Laws of words put into a list one after the other: two runs are one run, and what is left to put gives what there was to put.
-use Prim.Native.Nat.{ℕ, suc, _+_, _≤_}
-use mathlib.Core.Path.{_≡_, refl, sym, ap, _∙_}
-use mathlib.Core.List.{List, [], _∷_, _++_}
-use native.Mathlib.Omega.{arith}
-use native.Mathlib.Nat.{add-zero}
-use native.Mathlib.Numerals.{add-one}
-use lib.ListN.{length, set, take, drop, length-append}
-use lib.Seq.{sets, length-sets, sets-eq}
+use Rattle.model.proofs.Prelude.{ℕ, suc, _+_, _≤_, _≡_, refl, sym, ap, _∙_, List, [], _∷_, _++_, arith, add-zero, add-one, length, set, take, drop, length-append, sets, length-sets, sets-eq}
 use Rattle.stores.specs.Emitted.{Emitted}
 
 -- two stores, as the code makes them
 pub two-put : (l : List ℕ) (at x y : ℕ) → Emitted l at (x ∷ y ∷ []) (at + 1 + 1) (set (set l at x) (at + 1) y)
 two-put l at x y = record { end = omega arith; list = rw add-one }
 
-sets-append : (xs ys l : List ℕ) (i : ℕ) → sets l i (xs ++ ys) ≡ sets (sets l i xs) (i + length xs) ys
+pub sets-append : (xs ys l : List ℕ) (i : ℕ) → sets l i (xs ++ ys) ≡ sets (sets l i xs) (i + length xs) ys
 sets-append [] ys l i = rw add-zero
 sets-append (x ∷ xs) ys l i =
     sets-append xs ys (set l i x) (suc i) ∙ ap (λ (k : ℕ). sets (sets (set l i x) (suc i) xs) k ys) (omega arith)
@@ -50,10 +43,6 @@ module _ {l : List ℕ} {at : ℕ} {xs m : List ℕ} {a : ℕ} where
   rest-none q = record { end = omega (arith, q .end); list = q .list }
 
   module _ (ys zs : List ℕ) (q : Rest l at xs m a (ys ++ zs)) where
-    -- the words have room where all have it
-    pub rest-room : at + length xs ≤ length l → a + length ys ≤ length m
-    rest-room h = omega (arith, q .end, q .long, length-append ys zs)
-
     -- a turn that puts ys
     pub rest-next : {b : ℕ} {n : List ℕ} → Emitted m a ys b n → Rest l at xs n b zs
     rest-next e =

@@ -1,10 +1,5 @@
 -- Laws of a group's text: a range of words in two parts, a range in which nothing is stored, and words that are stored one by one.
-use Prim.Native.Nat.{ℕ, zero, suc, _+_, _-_, _≤_, _<_}
-use mathlib.Core.Path.{_≡_, refl, ap, _∙_}
-use mathlib.Core.List.{List, [], _∷_, _++_}
-use mathlib.Core.Option.{Option, none, some}
-use native.Mathlib.Omega.{arith}
-use native.Mathlib.Nat.{add-zero, zero-add, le-refl}
+use Rattle.model.proofs.Prelude.{ℕ, zero, suc, _+_, _-_, _≤_, _<_, _≡_, refl, ap, _∙_, List, [], _∷_, _++_, Option, none, some, arith, add-zero, zero-add, le-refl}
 use Rattle.model.specs.Stores.{Stores, oneWord, pairOf, listed}
 use Rattle.model.specs.Calls.{Change, targets}
 use Rattle.model.proofs.Crash.Stores.{one-here, one-other}

@@ -1,15 +1,16 @@
-// Words put into a lent store list: "pairs of word index and value. The pair 2^64−1, 0 is a fence." Each function puts
-// its words from index at on, and answers the index behind them.
+// Store lists as they are filled: "pairs of word index and value. The pair 2^64−1, 0 is a fence. Stores between fences form a group, in
+// ascending index, each word once". A group stands in the list from index from to end; stores are put into it one by one, in any order.
+ghost use mathlib.Core.Path.{_≡_};
+ghost use mathlib.Core.Bool.{_&&_};
 ghost use mathlib.Core.List.{[], _∷_};
-ghost use Prim.Native.Nat.{_+_, _≤_};
-ghost use lib.ListN.{length};
-ghost use Rattle.model.specs.Stores.{fence};
+ghost use Prim.Native.Nat.{_+_, _*_, _≤_};
+ghost use lib.Dec.{ltb, eqb};
+ghost use lib.ListN.{length, getD};
+ghost use Rattle.model.specs.Stores.{fence, oneWord, run};
 ghost use Rattle.stores.specs.Emitted.{Emitted};
+ghost use Rattle.stores.specs.Added.{Added, part, placeOf, element};
 
-// The word index of a fence.
-const FENCE: u64 = 18446744073709551615;
-
-// Puts a pair of word index and value into the list, and answers the index behind it.
+// Puts a pair of word index and value into the list at index at, and answers the index behind it.
 // Example: pair(list, 4, 66, 1088) makes element 4 of the list 66 and element 5 1088, and is 6.
 pub fn pair(list: &mut [u64], at: usize, index: u64, value: u64) -> usize
     requires { ⌜ at + 2 ≤ length (now list) ⌝ }
@@ -21,11 +22,107 @@ pub fn pair(list: &mut [u64], at: usize, index: u64, value: u64) -> usize
     next + 1
 }
 
-// Puts a fence into the list, and answers the index behind it.
-// Example: fence(list, 6) makes element 6 of the list FENCE and element 7 0, and is 8.
+// Puts a fence into the list at index at, and answers the index behind it.
+// Example: fence(list, 6) makes element 6 of the list 2^64 - 1 and element 7 0, and is 8.
 pub fn fence(list: &mut [u64], at: usize) -> usize
     requires { ⌜ at + 2 ≤ length (now list) ⌝ }
     ensures { λ r. ⌜ Emitted (now (list .entry)) at (fence ∷ 0 ∷ []) r (now (list .exit)) ⌝ }
 {
-    pair(list, at, FENCE, 0)
+    pair(list, at, layout::FENCE, 0)
+}
+
+// Answers how many of the n pairs from index from on stay before a pair of word index i.
+// Example: of the pairs of words 3, 5 and 9 from index 0 on place(list, 0, 3, 5) is 1.
+fn place(list: &[u64], from: usize, n: usize, i: u64) -> usize
+    requires { ⌜ from + 2 * n ≤ length (now list) ⌝ }
+    ensures { λ r. ⌜ (r ≡ placeOf (now (list .entry)) from n i) × (r ≤ n) ⌝ }
+{
+    let mut k = n;
+    while 0 < k {
+        let j = k - 1;
+        let at = from + 2 * j;
+        let x = list[at];
+        if x < i {
+            return k;
+        }
+        k = j;
+    }
+    k
+}
+
+// Answers whether the pair at index at, if one stands there before end, has word index i.
+// Example: where element 4 is 9, has_word(list, 4, 6, 9) is true, and has_word(list, 6, 6, 9) is false.
+fn has_word(list: &[u64], at: usize, end: usize, i: u64) -> bool
+    requires { ⌜ end ≤ length (now list) ⌝ }
+    ensures { λ r. ⌜ r ≡ ltb at end && eqb (getD (now (list .entry)) at 0) i ⌝ }
+{
+    if end <= at {
+        return false;
+    }
+    let x = list[at];
+    x == i
+}
+
+// Puts a pair at index at and moves the n pairs from there on up behind it. Answers the index behind them.
+// Example: insert(list, 2, 1, 5, 8) makes elements 2 and 3 5 and 8, and elements 4 and 5 what 2 and 3 were; it is 6.
+fn insert(list: &mut [u64], at: usize, n: usize, index: u64, value: u64) -> usize
+    requires { ⌜ at + 2 * n + 2 ≤ length (now list) ⌝ }
+    ensures { λ r. ⌜ Emitted (now (list .entry)) at (index ∷ value ∷ part (now (list .entry)) at (2 * n)) r (now (list .exit)) ⌝ }
+{
+    let mut i = index;
+    let mut x = value;
+    let mut a = at;
+    let mut left = n;
+    while 0 < left {
+        let b = a + 1;
+        let j = list[a];
+        let y = list[b];
+        list[a] = i;
+        list[b] = x;
+        i = j;
+        x = y;
+        a = b + 1;
+        left = left - 1;
+    }
+    let b = a + 1;
+    list[a] = i;
+    list[b] = x;
+    b + 1
+}
+
+// Adds a store to the group that stands in the list from index from to end, unless the group stores that word. Answers the index behind
+// the group.
+// Example: where the list has 3, 7, 9, 1 from index 0 on, put(list, 0, 4, 5, 8) makes it 3, 7, 5, 8, 9, 1 and is 6, and
+// put(list, 0, 4, 9, 8) leaves it and is 4.
+pub fn put(list: &mut [u64], from: usize, end: usize, index: u64, value: u64) -> usize
+    requires { ⌜ (from ≤ end) × (end + 2 ≤ length (now list)) ⌝ }
+    ensures { λ r. ⌜ Added (now (list .entry)) from end (oneWord index value) r (now (list .exit)) × (from ≤ r) × (r ≤ end + 2) ⌝ }
+{
+    let n = (end - from) / 2;
+    let k = place(list, from, n, index);
+    let at = from + 2 * k;
+    let there = has_word(list, at, from + 2 * n, index);
+    if there {
+        return end;
+    }
+    insert(list, at, n - k, index, value)
+}
+
+// Adds words, from word w on, to the group that stands in the list from index 0 to end, but for words that the group stores. Answers the
+// index behind the group.
+// Example: where the list has 9, 1 from index 0 on, put_words(list, 2, 5, &[7, 8]) makes it 5, 7, 6, 8, 9, 1 and is 6.
+pub fn put_words(list: &mut [u64], end: usize, w: usize, words: &[u64]) -> usize
+    requires { ⌜ (end + 2 * length (now words) ≤ length (now list)) × (w + length (now words) ≤ 262144) ⌝ }
+    ensures { λ r. ⌜ Added (now (list .entry)) 0 end (run w (length (now (words .entry))) (element (now (words .entry)))) r
+        (now (list .exit))
+        × (r ≤ end + 2 * length (now (words .entry))) ⌝ }
+{
+    let mut e = end;
+    let mut i: usize = 0;
+    while i < words.len() {
+        let x = words[i];
+        e = put(list, 0, e, (w + i) as u64, x);
+        i = i + 1;
+    }
+    e
 }

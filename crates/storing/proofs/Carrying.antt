@@ -1,13 +1,5 @@
 -- The cases of carry out: each test of the code is one of the definition's, since a volume of P pages has 64 P words.
-use Prim.Native.Nat.{ℕ, _*_, _/_, _%_, _≤_, _<_}
-use mathlib.Core.Path.{_≡_, refl, sym, _∙_}
-use mathlib.Core.Bool.{Bool, true, false, not, _&&_}
-use mathlib.Core.List.{List, [], _∷_}
-use mathlib.Core.Option.{none}
-use native.Mathlib.Omega.{arith}
-use borrow.Author.Tests.{lt-ltb, le-ltb, eq-eqb, ne-eqb, not-true, not-false}
-use lib.ListN.{length, take}
-use lib.Seq.{length-take-le}
+use Rattle.model.proofs.Prelude.{ℕ, _*_, _/_, _%_, _≤_, _<_, _≡_, refl, sym, _∙_, Bool, true, false, not, _&&_, List, [], _∷_, none, arith, lt-ltb, le-ltb, eq-eqb, ne-eqb, not-true, not-false, length, take, length-take-le}
 use Rattle.model.specs.Words.{word}
 use Rattle.model.specs.Stores.{carried}
 use Rattle.model.specs.Answer.{refused, done, firstRefusal, noVolume, badList}

@@ -1,15 +1,5 @@
 -- The cases of format: after i turns of its loop the first i bytes are zeros; what its sizes are decides the answer.
-use Prim.Native.Nat.{ℕ, zero, suc, _+_, _*_, _/_, _≤_, _<_}
-use mathlib.Core.Path.{_≡_, refl, sym, _∙_}
-use mathlib.Core.Bool.{Bool, true, false, not, _&&_}
-use mathlib.Core.List.{List, _∷_, _++_}
-use mathlib.Core.Option.{none}
-use native.Mathlib.Omega.{arith}
-use native.Mathlib.Numerals.{add-one}
-use borrow.Author.Tests.{eqb-true, not-true, not-false}
-use lib.Dec.{eqb}
-use lib.ListN.{length, getD, set, drop, replicate, length-replicate}
-use lib.Seq.{drop-cons, set-at}
+use Rattle.model.proofs.Prelude.{ℕ, zero, suc, _+_, _*_, _/_, _≤_, _<_, _≡_, refl, sym, _∙_, Bool, true, false, not, _&&_, List, _∷_, _++_, none, arith, add-one, eqb-true, not-true, not-false, eqb, length, getD, set, drop, replicate, length-replicate, drop-cons, set-at}
 use Rattle.model.specs.Words.{putWord}
 use Rattle.model.specs.Layout.{sizesOk}
 use Rattle.model.specs.Answer.{refused, done, noVolume}

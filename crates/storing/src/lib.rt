@@ -9,9 +9,6 @@ ghost use Rattle.model.specs.Public.{formatAnswer, formatVolume, carryAnswer, c
 ghost use Rattle.answer.specs.Meaning.{meaning, plain};
 use answer::Answer;
 
-// The valid word of inode 0, the directory.
-const ROOT_WORD: usize = 64;
-
 // Answers the first byte after page 0 and the inode table.
 // Example: table_end(8) is 1024 and table_end(256) is 16896.
 fn table_end(inodes: u64) -> usize
@@ -19,7 +16,7 @@ fn table_end(inodes: u64) -> usize
     ensures { λ r. ⌜ r ≡ 512 * (inodes / 8 + 1) ⌝ }
 {
     let table = inodes as usize / 8;
-    512 * (table + 1)
+    layout::PAGE * (table + 1)
 }
 
 // Zeroes the first n bytes and leaves the others. Answers nothing.
@@ -42,10 +39,10 @@ fn put_header(v: &mut [u8], pages: u64, inodes: u64)
     requires { ⌜ 520 ≤ length (now v) ⌝ }
     ensures { λ _. ⌜ now (v .exit) ≡ putWord (putWord (putWord (putWord (now (v .entry)) 0 pages) 1 inodes) 2 1) 64 1 ⌝ }
 {
-    words::put_word(v, header::PAGES_WORD, pages);
-    words::put_word(v, header::INODES_WORD, inodes);
-    words::put_word(v, header::KIND_WORD, 1);
-    words::put_word(v, ROOT_WORD, 1);
+    words::put_word(v, layout::PAGES_WORD, pages);
+    words::put_word(v, layout::INODES_WORD, inodes);
+    words::put_word(v, layout::KIND_WORD, 1);
+    words::put_word(v, layout::valid_word(layout::ROOT), 1);
 }
 
 // Makes v a new volume with so many pages and inodes, an empty directory and no files: zeroes page 0 and the inode

@@ -1,11 +1,5 @@
 -- An accepted volume, judged in the code's order: the journal, the directory's log with its names, then every inode and every page.
-use Prim.Native.Nat.{ℕ, _≤_, _<_}
-use mathlib.Core.Path.{_≡_, sym, _∙_}
-use mathlib.Core.Bool.{Bool, true, false, not, _&&_}
-use mathlib.Core.List.{List}
-use native.Mathlib.Omega.{arith}
-use lib.ListN.{length}
-use borrow.Author.Tests.{eqb-true, not-true, not-false}
+use Rattle.model.proofs.Prelude.{ℕ, _≤_, _<_, _≡_, sym, _∙_, Bool, true, false, not, _&&_, List, arith, length, eqb-true, not-true, not-false}
 use Rattle.model.specs.Lists.{allBelow}
 use Rattle.model.specs.Words.{Mem, word}
 use Rattle.model.specs.Layout.{root, isDirectory}
@@ -101,7 +95,7 @@ module _ (v : List ℕ) (P N : ℕ) (is-volume : isVolume (length v) (word v) �
           }
 
       -- What `accepted_names` answered of directory d, x, with the table t.
-      module _ (d : ℕ) (dir : isDirectory d ≡ true) (x : Named) (t : List ℕ)
+      module _ (d : ℕ) (dir : isDirectory (view (word v)) d ≡ true) (x : Named) (t : List ℕ)
           (f : Folds (word v) (length v) (logOk (view (word v)) P N d && namesOk (view (word v)) N (namesOf (view (word v)) P N d))
           (namesOf (view (word v)) P N d) x t) where
         is-root : d ≡ root

@@ -6,8 +6,10 @@ ghost use mathlib.Core.Bool.{true};
 ghost use lib.ListN.{length, replicate};
 ghost use Rattle.model.specs.Words.{word};
 ghost use Rattle.model.specs.Layout.{isDirectory};
+ghost use Rattle.model.specs.Journal.{view};
 ghost use Rattle.model.specs.Public.{isVolume};
 ghost use Rattle.survey.specs.Surveyed.{Surveyed};
+use layout::Sizes;
 
 // What was found of a volume: whether it is accepted and, if so, how many names a directory of it has.
 pub struct Found {
@@ -19,20 +21,19 @@ pub struct Found {
 // whether the volume is accepted, and how many names directory d has. Where it is not accepted, the tables hold anything.
 // Example: of a volume just formatted judge(v, 0, places, marks) answers that it is accepted and has 0 names.
 pub fn judge(v: &[u8], d: usize, places: &mut [u16; 224], marks: &mut [u8; 4096]) -> Found
-    requires { ⌜ (isVolume (length (now v)) (word (now v)) ≡ true) × (isDirectory d ≡ true) × (length (now places) ≡ 224)
+    requires { ⌜ (isVolume (length (now v)) (word (now v)) ≡ true) × (isDirectory (view (word (now v))) d ≡ true)
+        × (length (now places) ≡ 224)
         × (now marks ≡ replicate 4096 0) ⌝ }
     ensures { λ r. ⌜ Surveyed (word (now (v .entry))) (length (now (v .entry))) d r (now (places .exit)) (now (marks .exit)) ⌝ }
 {
-    let pages = words::word_at(v, 0) as usize;
-    let count = words::word_at(v, 1);
-    let inodes = count as usize;
-    if !journal::journal_ok(v, count) {
+    let sizes = Sizes::of(v);
+    if !journal::journal_ok(v, sizes.inodes as u64) {
         return Found {
             accepted: false,
             names: 0,
         };
     }
-    let named = names::accepted_names(v, d, pages, inodes, places);
+    let named = names::accepted_names(v, d, sizes.pages, sizes.inodes, places);
     if !named.good {
         return Found {
             accepted: false,
@@ -40,7 +41,7 @@ pub fn judge(v: &[u8], d: usize, places: &mut [u16; 224], marks: &mut [u8; 4096]
         };
     }
     Found {
-        accepted: inodes::judge_pages(v, pages, inodes, marks),
+        accepted: inodes::judge_pages(v, sizes.pages, sizes.inodes, marks),
         names: named.count,
     }
 }

@@ -3,8 +3,10 @@
 // leaves the volume: carry_out stores it.
 ghost use mathlib.Core.Path.{_≡_};
 ghost use Rattle.model.specs.FileMap.{create, link, unlink, rename, write, setSize, clean, recover};
-ghost use Rattle.model.specs.Public.{formatAnswer, formatVolume, carryAnswer, carryVolume, findAnswer, freeAnswer, kthNameAnswer, kthNameBuffer};
-ghost use Rattle.model.specs.Public.{sizeAnswer, readAnswer, readBuffer, callAnswer, callList};
+ghost use Rattle.model.specs.Public.{formatAnswer, formatVolume, carryAnswer, carryVolume, findAnswer, freeAnswer, kthNameAnswer};
+ghost use Rattle.model.specs.Public.{kthNameBuffer};
+ghost use Rattle.model.specs.Public.{sizeAnswer, readAnswer, readBuffer};
+ghost use Rattle.answer.specs.Comes.{Fills};
 ghost use Rattle.answer.specs.Meaning.{meaning, plain, numbered};
 use answer::Answer;
 
@@ -37,8 +39,7 @@ pub fn carry_out(v: &mut [u8], list: &[u64], count: u64) -> Answer
 // Refusals: ShortMemory, NoVolume, Damaged, JournalOpen, BadName, Taken, NoInode, DirectoryFull, NoSpace.
 // Example: of 16 pages just formatted with 8 inodes create(v, b"A1", list) is Number(46); carried out, "A1" leads to inode 1.
 pub fn create(v: &[u8], name: &[u8], list: &mut [u64]) -> Answer
-    ensures { λ r. ⌜ (meaning r ≡ numbered (callAnswer (now (v .entry)) (now (list .entry)) (create (now (name .entry)))))
-        × (now (list .exit) ≡ callList (now (v .entry)) (now (list .entry)) (create (now (name .entry)))) ⌝ }
+    ensures { λ r. ⌜ Fills (now (v .entry)) (now (list .entry)) (create (now (name .entry))) r (now (list .exit)) ⌝ }
 {
     naming::create(v, name, list)
 }
@@ -48,8 +49,7 @@ pub fn create(v: &[u8], name: &[u8], list: &mut [u64]) -> Answer
 // Refusals: ShortMemory, NoVolume, Damaged, JournalOpen, BadName, NotThere, Taken, DirectoryFull, NoSpace.
 // Example: where "A1" is the only name, link(v, b"A1", b"A2", list) is Number(22), and link(v, b"A1", b"A1", list) Taken.
 pub fn link(v: &[u8], old: &[u8], new: &[u8], list: &mut [u64]) -> Answer
-    ensures { λ r. ⌜ (meaning r ≡ numbered (callAnswer (now (v .entry)) (now (list .entry)) (link (now (old .entry)) (now (new .entry)))))
-        × (now (list .exit) ≡ callList (now (v .entry)) (now (list .entry)) (link (now (old .entry)) (now (new .entry)))) ⌝ }
+    ensures { λ r. ⌜ Fills (now (v .entry)) (now (list .entry)) (link (now (old .entry)) (now (new .entry))) r (now (list .exit)) ⌝ }
 {
     naming::link(v, old, new, list)
 }
@@ -59,8 +59,7 @@ pub fn link(v: &[u8], old: &[u8], new: &[u8], list: &mut [u64]) -> Answer
 // Refusals: ShortMemory, NoVolume, Damaged, JournalOpen, BadName, NotThere, NoSpace.
 // Example: where "A1" is the only name of inode 1, unlink(v, b"A1", list) is Number(40).
 pub fn unlink(v: &[u8], name: &[u8], list: &mut [u64]) -> Answer
-    ensures { λ r. ⌜ (meaning r ≡ numbered (callAnswer (now (v .entry)) (now (list .entry)) (unlink (now (name .entry)))))
-        × (now (list .exit) ≡ callList (now (v .entry)) (now (list .entry)) (unlink (now (name .entry)))) ⌝ }
+    ensures { λ r. ⌜ Fills (now (v .entry)) (now (list .entry)) (unlink (now (name .entry))) r (now (list .exit)) ⌝ }
 {
     naming::unlink(v, name, list)
 }
@@ -71,8 +70,7 @@ pub fn unlink(v: &[u8], name: &[u8], list: &mut [u64]) -> Answer
 // Refusals: ShortMemory, NoVolume, Damaged, JournalOpen, BadName, NotThere, NoSpace.
 // Example: where "A1" is the only name, rename(v, b"A1", b"A2", list) is Number(38), and rename(v, b"A1", b"A1", list) Number(0).
 pub fn rename(v: &[u8], old: &[u8], new: &[u8], list: &mut [u64]) -> Answer
-    ensures { λ r. ⌜ (meaning r ≡ numbered (callAnswer (now (v .entry)) (now (list .entry)) (rename (now (old .entry)) (now (new .entry)))))
-        × (now (list .exit) ≡ callList (now (v .entry)) (now (list .entry)) (rename (now (old .entry)) (now (new .entry)))) ⌝ }
+    ensures { λ r. ⌜ Fills (now (v .entry)) (now (list .entry)) (rename (now (old .entry)) (now (new .entry))) r (now (list .exit)) ⌝ }
 {
     naming::rename(v, old, new, list)
 }
@@ -83,8 +81,7 @@ pub fn rename(v: &[u8], old: &[u8], new: &[u8], list: &mut [u64]) -> Answer
 // Example: where inode 1 is an empty file with a log page that has room for an entry, write(v, 1, 0, b"abcd", list) is Number(150), and
 // write(v, 1, 65533, b"abcd", list) is PastTheEnd.
 pub fn write(v: &[u8], inode: u64, offset: u64, bytes: &[u8], list: &mut [u64]) -> Answer
-    ensures { λ r. ⌜ (meaning r ≡ numbered (callAnswer (now (v .entry)) (now (list .entry)) (write inode offset (now (bytes .entry)))))
-        × (now (list .exit) ≡ callList (now (v .entry)) (now (list .entry)) (write inode offset (now (bytes .entry)))) ⌝ }
+    ensures { λ r. ⌜ Fills (now (v .entry)) (now (list .entry)) (write inode offset (now (bytes .entry))) r (now (list .exit)) ⌝ }
 {
     writing::write(v, inode, offset, bytes, list)
 }
@@ -92,11 +89,10 @@ pub fn write(v: &[u8], inode: u64, offset: u64, bytes: &[u8], list: &mut [u64]) 
 // Sets the size of a file: fills the list with the store list. Answers Number with the count of words filled, 0 where the file has that
 // size already.
 // Refusals: ShortMemory, NoVolume, Damaged, JournalOpen, NotThere, PastTheEnd, NoSpace.
-// Example: where inode 1 is a file of 1,024 bytes on two pages and its log has a page with room for two entries, set_size(v, 1, 700, list) is
-// Number(166), set_size(v, 1, 512, list) Number(22), set_size(v, 1, 1024, list) Number(0) and set_size(v, 1, 65537, list) PastTheEnd.
+// Example: where inode 1 is a file of 1,024 bytes on two pages and its log has a page with room for two entries, set_size(v, 1, 700, list)
+// is Number(166), set_size(v, 1, 512, list) Number(22), set_size(v, 1, 1024, list) Number(0) and set_size(v, 1, 65537, list) PastTheEnd.
 pub fn set_size(v: &[u8], inode: u64, size: u64, list: &mut [u64]) -> Answer
-    ensures { λ r. ⌜ (meaning r ≡ numbered (callAnswer (now (v .entry)) (now (list .entry)) (setSize inode size)))
-        × (now (list .exit) ≡ callList (now (v .entry)) (now (list .entry)) (setSize inode size)) ⌝ }
+    ensures { λ r. ⌜ Fills (now (v .entry)) (now (list .entry)) (setSize inode size) r (now (list .exit)) ⌝ }
 {
     writing::set_size(v, inode, size, list)
 }
@@ -107,8 +103,7 @@ pub fn set_size(v: &[u8], inode: u64, size: u64, list: &mut [u64]) -> Answer
 // Example: of a volume just formatted with 8 inodes clean(v, 0, list) is Number(0), and clean(v, 1, list) and clean(v, 8, list) are
 // NotThere; where file 1 has one page, clean(v, 1, list) is Number(40).
 pub fn clean(v: &[u8], inode: u64, list: &mut [u64]) -> Answer
-    ensures { λ r. ⌜ (meaning r ≡ numbered (callAnswer (now (v .entry)) (now (list .entry)) (clean inode)))
-        × (now (list .exit) ≡ callList (now (v .entry)) (now (list .entry)) (clean inode)) ⌝ }
+    ensures { λ r. ⌜ Fills (now (v .entry)) (now (list .entry)) (clean inode) r (now (list .exit)) ⌝ }
 {
     cleaning::clean(v, inode, list)
 }
@@ -118,8 +113,7 @@ pub fn clean(v: &[u8], inode: u64, list: &mut [u64]) -> Answer
 // Refusals: ShortMemory, NoVolume, Damaged.
 // Example: of a volume just formatted recover(v, list) is Number(0); with one entry open it is Number(8).
 pub fn recover(v: &[u8], list: &mut [u64]) -> Answer
-    ensures { λ r. ⌜ (meaning r ≡ numbered (callAnswer (now (v .entry)) (now (list .entry)) recover))
-        × (now (list .exit) ≡ callList (now (v .entry)) (now (list .entry)) recover) ⌝ }
+    ensures { λ r. ⌜ Fills (now (v .entry)) (now (list .entry)) recover r (now (list .exit)) ⌝ }
 {
     cleaning::recover(v, list)
 }

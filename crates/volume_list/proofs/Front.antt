@@ -1,10 +1,5 @@
 -- The front of a text that begins with what was laid there is what was laid.
-use Prim.Native.Nat.{ℕ, _≤_}
-use mathlib.Core.Path.{_≡_, sym}
-use mathlib.Core.List.{List, _++_}
-use native.Mathlib.Omega.{arith}
-use lib.ListN.{length, take, drop, length-append}
-use lib.Seq.{take-at, length-take-le}
+use Rattle.model.proofs.Prelude.{ℕ, _≤_, _≡_, sym, List, _++_, arith, length, take, drop, length-append, take-at, length-take-le}
 
 -- n bytes, t, were laid at the start of the text l, which is m afterwards
 module _ (t l m : List ℕ) (n : ℕ) (e : n ≡ length t) (q : m ≡ t ++ drop n l) where

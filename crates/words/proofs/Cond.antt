@@ -1,10 +1,6 @@
 -- Laws by which `search` goes through nested tests: what the code knows of a test gives its value, and the value chooses the side.
 -- A definition tests by `cond` and `&&`; in the code each test is an `if` of its own, and x is what the code answers.
-use Prim.Native.Nat.{ℕ, _≤_, _<_}
-use mathlib.Core.Path.{_≡_, refl, sym, _∙_}
-use mathlib.Core.Bool.{Bool, true, false, not, cond, _&&_}
-use lib.Dec.{leb, ltb, eqb}
-use borrow.Author.Tests.{lt-ltb, le-ltb, le-leb, lt-leb, eq-eqb, ne-eqb, not-true, not-false}
+use Rattle.model.proofs.Prelude.{ℕ, _≤_, _<_, _≡_, refl, sym, _∙_, Bool, true, false, not, cond, _&&_, leb, ltb, eqb, lt-ltb, le-ltb, le-leb, lt-leb, eq-eqb, ne-eqb, not-true, not-false}
 
 -- The value of a test that a callee made: f is the callee's result, and the code asked `f` (flag) or `!f` (asked).
 

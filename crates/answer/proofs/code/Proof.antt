@@ -1,5 +1,5 @@
 -- An answer that is no number has the number of its refusal, or none; a number is itself, up to the largest.
-use borrow.Author.Needs.{needs}
+use Rattle.model.proofs.Prelude.{needs}
 use Rattle.answer.proofs.Codes.{minus-fits, code-told, code-small, code-large}
 use Rattle.answer.proofs.code.Statement.{statement}
 use Rattle.answer.proofs.code.Tie as tie

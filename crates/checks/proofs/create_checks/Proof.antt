@@ -1,5 +1,5 @@
 -- Each answer is one case of the checks.
-use borrow.Author.Needs.{needs}
+use Rattle.model.proofs.Prelude.{needs}
 use Rattle.checks.proofs.Cases.{create-bad, create-taken, create-none, create-full, create-is}
 use Rattle.checks.proofs.create_checks.Statement.{statement}
 use Rattle.checks.proofs.create_checks.Tie as tie

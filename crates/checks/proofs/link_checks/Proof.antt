@@ -1,5 +1,5 @@
 -- Each answer is one case of the checks.
-use borrow.Author.Needs.{needs}
+use Rattle.model.proofs.Prelude.{needs}
 use Rattle.checks.proofs.Cases.{link-refused, link-taken, link-full, link-is}
 use Rattle.checks.proofs.link_checks.Statement.{statement}
 use Rattle.checks.proofs.link_checks.Tie as tie

@@ -1,5 +1,5 @@
 -- Each answer is one case of the checks.
-use borrow.Author.Needs.{needs}
+use Rattle.model.proofs.Prelude.{needs}
 use Rattle.checks.proofs.Cases.{rename-bad-old, rename-bad-new, rename-absent, rename-is}
 use Rattle.checks.proofs.rename_checks.Statement.{statement}
 use Rattle.checks.proofs.rename_checks.Tie as tie

@@ -1,6 +1,6 @@
--- The names are those of the directory; a file of an accepted volume has a log that is good, so that its state is what the log means.
-use native.Mathlib.Omega.{arith}
-use Rattle.cleaning.proofs.Anew.{clean-ready, clean-long, clean-below, names-few, names-bound, names-laid, good-log, file-laid}
+-- The entries are those of the directory's names; a file's log is good, so that its state is what the log means.
+use Rattle.model.proofs.Prelude.{arith, needs}
+use Rattle.cleaning.proofs.Anew.{entries-long, names-few, names-laid, file-ready, file-below, file-log, file-laid}
 use Rattle.cleaning.proofs.clean_entries.Statement.{statement}
 use Rattle.cleaning.proofs.clean_entries.Tie as tie
 
@@ -8,10 +8,11 @@ pub clean-entries-spec : {M : Type 1} → statement M
 clean-entries-spec =
     tie.close
     (tie.spec
-    (λ c κs. search names-few)
-    (λ c. (search names-laid, search names-bound))
-    (λ c κs. omega (arith, clean-long))
-    (λ c κs. omega (arith, clean-long))
-    (λ c κs. (search clean-ready, omega arith, search clean-below, search, search good-log))
     (λ c κs. search)
+    (λ c. search needs)
+    (λ c. (search names-laid, search names-few))
+    (λ c κs. search entries-long)
+    (λ c κs. (search file-ready, omega arith, search file-below, search, search file-log))
+    (λ c κs. search)
+    (λ c. search needs)
     (λ c. (search file-laid, omega arith)))

@@ -1,6 +1,6 @@
--- An empty log is left; any other comes to what writing it anew comes to.
-use Rattle.cleaning.proofs.Anew.{clean-long}
-use Rattle.cleaning.proofs.Cleaning.{log-inode, log-dequeue, log-enqueue, log-inside, log-nothing, log-empty, log-rewritable, log-answer, log-list}
+-- An inode that is not there, an empty log, and else the append that writes the log anew.
+use Rattle.model.proofs.Prelude.{needs}
+use Rattle.cleaning.proofs.Anew.{slice-long, log-long, log-readable, clean-absent, inode-low, tail-inside, clean-empty, can-clean, anew-ready, anew-comes}
 use Rattle.cleaning.proofs.clean_log.Statement.{statement}
 use Rattle.cleaning.proofs.clean_log.Tie as tie
 
@@ -8,9 +8,30 @@ pub clean-log-spec : {M : Type 1} → statement M
 clean-log-spec =
     tie.close
     (tie.spec
-    (λ c κs. search log-inode)
-    (λ c κs. (search log-dequeue, search log-enqueue, search clean-long, search log-inside))
-    (λ c. log-nothing _ _ _ (search log-empty))
-    (λ c κs. (search log-rewritable, search, search))
-    (λ c. search)
-    (λ c. (search log-answer, search log-list)))
+    (λ c κs. search log-long)
+    (λ c κs. search log-readable)
+    (λ c. search clean-absent)
+    (λ c κs. search inode-low)
+    (λ c κs. search tail-inside)
+    (λ c. search clean-empty)
+    (λ c. search needs)
+    (λ c κs. (search can-clean, search needs))
+    (λ c. search needs)
+    (λ c κs. search needs)
+    (λ c. search needs)
+    (λ c. search (slice-long, needs))
+    (λ c. search needs)
+    (λ c. search needs)
+    (λ c κs.
+    let e = c .before .before .before .before .before .before in
+    let a = e .before .before .before .before .before in
+    anew-ready _ _ _ _ _ (a .before .before .before .before .before .pre) _ _ (a .before .before .of .ensures .1) _ (a .before .is-valid .ensures)
+    (a .if1 .left) _ (c .before .before .before .anew .ensures) _ _ (e .clean-entries .ensures .1))
+    (λ c. search needs)
+    (λ c.
+    let e = c .before .before .before .before .before .before .before .before .before in
+    let t = e .before .before in
+    let a = t .before .before .before in
+    anew-comes _ _ _ _ _ (a .before .before .before .before .before .pre) _ _ (a .before .before .of .ensures .1) _ (a .before .is-valid .ensures)
+    (a .if1 .left) _ _ (t .before .before .tail-word .ensures) (t .before .word-at .ensures) (t .if2 .left) _ _ _ (e .clean-entries .ensures .0)
+    (e .clean-entries .ensures .1) (search needs) _ (c .before .before .before .before .before .before .anew .ensures) _ _ (c .before .before .make .ensures)))

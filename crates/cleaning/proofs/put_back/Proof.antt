@@ -1,29 +1,32 @@
--- The two words read are the position's target and its old value.
-use Prim.Native.Nat.{ℕ}
-use mathlib.Core.Path.{_≡_}
-use mathlib.Core.List.{List}
-use native.Mathlib.Omega.{arith}
-use Rattle.group.specs.Plan.{setPair}
+-- The loop's invariant: the old values that are left give, added from here on, all old values.
+use Rattle.model.proofs.Prelude.{_+_, _*_, _≤_, _<_, _≡_, length, needs}
+use Rattle.cleaning.proofs.Back.{Backing, back-start, back-next, back-done}
 use Rattle.cleaning.proofs.put_back.Statement.{statement}
 use Rattle.cleaning.proofs.put_back.Tie as tie
 
--- t and o are the two words as they were read
-read : (l l′ : List ℕ) (n t x o y : ℕ) → t ≡ x → o ≡ y → l′ ≡ setPair l n t o → l′ ≡ setPair l n x y
-read l l′ n t x o y p q e = rw (p, q) at e
+abbrev Inv-loop : tie.InvT-loop
+Inv-loop v list₀ p₀ left₀ e₀ list p left e =
+    (p .at < 16) × (e + 2 * left ≤ 30) × (length list ≡ length list₀) × Backing v list₀ list e left (p .at)
+
+abbrev μ-loop : tie.MeasureT-loop
+μ-loop v list₀ p₀ left₀ e₀ list p left e = left
 
 pub put-back-spec : {M : Type 1} → statement M
 put-back-spec =
     tie.close
     (tie.spec
-    (λ c. omega arith)
-    (λ c. omega arith)
-    (λ c κs. omega arith)
-    (λ c. omega arith)
-    (λ c. omega arith)
-    (λ c κs. omega arith)
+    Inv-loop
+    μ-loop
+    (λ c κs. search needs)
+    (λ c κs. search needs)
     (λ c κs. search)
-    (λ c.
-    let b1 = c .before .before in
-    let b2 = b1 .before in
-    let s = b2 .before .before in
-    read (s .args .singles .now) _ (s .args .n) _ _ _ _ (b2 .word-at .ensures) (b1 .word-at2 .ensures) (c .put-single .ensures)))
+    (λ c. search (back-start, needs))
+    (λ c κs. search)
+    (λ c κs. search)
+    (λ c κs. search needs)
+    (λ c κs. search)
+    (λ c. search needs)
+    (λ c. search needs)
+    (λ c. search (back-next, needs))
+    (λ c. search needs)
+    (λ c. search (back-done, needs)))

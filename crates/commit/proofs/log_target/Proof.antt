@@ -1,6 +1,6 @@
--- Two singles, one behind the other.
-use borrow.Author.Needs.{needs}
-use Rattle.commit.proofs.Journal.{target-put}
+-- The position's two words, one after the other.
+use Rattle.model.proofs.Prelude.{needs}
+use Rattle.commit.proofs.Commits.{target-logged}
 use Rattle.commit.proofs.log_target.Statement.{statement}
 use Rattle.commit.proofs.log_target.Tie as tie
 
@@ -11,9 +11,9 @@ log-target-spec =
     (λ c. search needs)
     (λ c. search needs)
     (λ c κs. search needs)
-    (λ c. search needs)
+    (λ c κs. search needs)
     (λ c. search needs)
     (λ c. search needs)
     (λ c κs. search needs)
-    (λ c κs. search needs)
-    (λ c. search (target-put, needs)))
+    (λ c. search needs)
+    (λ c. (search (target-logged, needs), search needs)))

@@ -1,8 +1,5 @@
 -- The loop's invariant: the file's bytes that are left, laid from here on, give all of them, laid from the start on.
-use Prim.Native.Nat.{_+_}
-use mathlib.Core.Path.{_≡_}
-use lib.ListN.{length}
-use borrow.Author.Needs.{needs}
+use Rattle.model.proofs.Prelude.{_+_, _≡_, length, needs}
 use Rattle.model.specs.Words.{word}
 use Rattle.contents.specs.Laid.{laid, tableByte}
 use Rattle.contents.proofs.Laying.{laid-end}

@@ -1,5 +1,5 @@
 -- A page that is not there is zeros, and one that is there its bytes.
-use borrow.Author.Needs.{needs}
+use Rattle.model.proofs.Prelude.{needs}
 use Rattle.contents.proofs.Pages.{no-page, one-page}
 use Rattle.contents.proofs.lay_piece.Statement.{statement}
 use Rattle.contents.proofs.lay_piece.Tie as tie

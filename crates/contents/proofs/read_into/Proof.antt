@@ -1,5 +1,5 @@
 -- At or past the end nothing is laid; before it what `lay_file` laid are the file's bytes, with the rest of the buffer behind them.
-use borrow.Author.Needs.{needs}
+use Rattle.model.proofs.Prelude.{needs}
 use Rattle.model.specs.Lists.{valuesFrom}
 use Rattle.contents.proofs.Pages.{file-laid}
 use Rattle.contents.proofs.read_into.Statement.{statement}

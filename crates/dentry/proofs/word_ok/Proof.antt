@@ -1,6 +1,5 @@
 -- The invariant: the bytes that are left are the rest of the name and zeros if and only if all are the name and zeros.
-use mathlib.Core.Path.{_≡_}
-use native.Mathlib.Omega.{arith}
+use Rattle.model.proofs.Prelude.{_≡_, arith}
 use Rattle.dentry.specs.Fields.{wordOk}
 use Rattle.dentry.proofs.Fields.{byte-zero, byte-slash, byte-next, bytes-end}
 use Rattle.dentry.proofs.word_ok.Statement.{statement}

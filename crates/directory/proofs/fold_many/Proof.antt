@@ -1,8 +1,5 @@
 -- Where the index is full, more than 224 names stand or an entry is none of a directory.
-use Prim.Native.Nat.{ℕ, _<_}
-use lib.ListN.{getD}
-use native.Mathlib.Omega.{arith}
-use borrow.Author.Needs.{needs}
+use Rattle.model.proofs.Prelude.{ℕ, _<_, getD, arith, needs}
 use Rattle.directory.proofs.Folding.{large-none, fold-done, many-names}
 use Rattle.directory.proofs.fold_many.Statement.{statement}
 use Rattle.directory.proofs.fold_many.Tie as tie

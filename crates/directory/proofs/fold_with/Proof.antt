@@ -1,8 +1,5 @@
 -- Each answer is one of the first pass: the whole log is indexed and its names are listed, an entry decides, or the index is full.
-use Prim.Native.Nat.{ℕ, _<_}
-use lib.ListN.{getD}
-use native.Mathlib.Omega.{arith}
-use borrow.Author.Needs.{needs}
+use Rattle.model.proofs.Prelude.{ℕ, _<_, getD, arith, needs}
 use Rattle.directory.proofs.Folding.{none-slots, none-in, whole-slots, with-whole, with-bad, with-full}
 use Rattle.directory.proofs.fold_with.Statement.{statement}
 use Rattle.directory.proofs.fold_with.Tie as tie

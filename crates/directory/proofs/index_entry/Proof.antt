@@ -1,5 +1,5 @@
 -- Each answer is one kind of an entry; an add and a remove are noted as the index notes them.
-use borrow.Author.Needs.{needs}
+use Rattle.model.proofs.Prelude.{needs}
 use Rattle.directory.proofs.Indexing.{note-write, note-size, note-add, note-remove, note-none}
 use Rattle.directory.proofs.index_entry.Statement.{statement}
 use Rattle.directory.proofs.index_entry.Tie as tie

@@ -1,10 +1,5 @@
 -- The invariant: the entries that are left take the index to that of all entries, and are all good if all are.
-use Prim.Native.Nat.{_+_, _≤_, _<_}
-use mathlib.Core.Path.{_≡_}
-use mathlib.Core.List.{map}
-use lib.ListN.{length}
-use borrow.Author.Needs.{needs}
-use native.Mathlib.Omega.{arith}
+use Rattle.model.proofs.Prelude.{_+_, _≤_, _<_, _≡_, map, length, needs, arith}
 use Rattle.model.specs.Lists.{all}
 use Rattle.model.specs.Words.{word}
 use Rattle.model.specs.Entry.{entryAt, nameEntryOk}

@@ -1,9 +1,5 @@
 -- The invariant: the places listed so far, then those of the entries that are left that stand, are those of all.
-use Prim.Native.Nat.{_≤_}
-use mathlib.Core.Path.{_≡_}
-use mathlib.Core.List.{_++_}
-use lib.ListN.{length, take}
-use native.Mathlib.Omega.{arith}
+use Rattle.model.proofs.Prelude.{_≤_, _≡_, _++_, length, take, arith}
 use Rattle.model.specs.Words.{word}
 use Rattle.log.specs.Steps.{wordsFrom}
 use Rattle.log.proofs.Turns.{step-here, step-there, step-low}

@@ -1,5 +1,5 @@
 -- Where the log is found its names are read with the small index, or with the large one where that is full.
-use borrow.Author.Tests.{not-false}
+use Rattle.model.proofs.Prelude.{not-false}
 use Rattle.directory.proofs.Folding.{inode-in, log-found, fold-done, names-lost, names-found}
 use Rattle.directory.proofs.names_of.Statement.{statement}
 use Rattle.directory.proofs.names_of.Tie as tie

@@ -1,6 +1,5 @@
 -- The words of a name field that is as it should be are the name's, since the volume's bytes are below 256.
-use native.Mathlib.Omega.{arith}
-use borrow.Author.Needs.{needs}
+use Rattle.model.proofs.Prelude.{arith, needs}
 use Rattle.entries.proofs.Names.{field-word}
 use Rattle.entries.proofs.field_word.Statement.{statement}
 use Rattle.entries.proofs.field_word.Tie as tie

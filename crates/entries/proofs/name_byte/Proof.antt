@@ -1,5 +1,5 @@
 -- Past its end a list reads as 0.
-use borrow.Author.Needs.{needs}
+use Rattle.model.proofs.Prelude.{needs}
 use Rattle.entries.proofs.Names.{past-end}
 use Rattle.entries.proofs.name_byte.Statement.{statement}
 use Rattle.entries.proofs.name_byte.Tie as tie

@@ -1,5 +1,5 @@
 -- What `name_le` answers at the word's first byte is the word, by definition.
-use borrow.Author.Needs.{needs}
+use Rattle.model.proofs.Prelude.{needs}
 use Rattle.model.specs.Words.{word}
 use Rattle.entries.proofs.name_word.Statement.{statement}
 use Rattle.entries.proofs.name_word.Tie as tie

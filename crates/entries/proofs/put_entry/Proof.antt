@@ -1,6 +1,5 @@
 -- The loop's invariant: the first i words of the entry are laid, and the words before it are as they were.
-use Prim.Native.Nat.{_-_, _*_, _≤_}
-use borrow.Author.Needs.{needs}
+use Rattle.model.proofs.Prelude.{_-_, _*_, _≤_, needs}
 use Rattle.entries.proofs.Entries.{Laying, laying-none, laying-next, entry-put}
 use Rattle.entries.proofs.put_entry.Statement.{statement}
 use Rattle.entries.proofs.put_entry.Tie as tie
@@ -27,4 +26,5 @@ put-entry-spec =
     (λ c. search needs)
     (λ c. search needs)
     (λ c. search (laying-next, needs))
+    (λ c. search needs)
     (λ c. search (entry-put, needs)))

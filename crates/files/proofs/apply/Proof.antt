@@ -1,5 +1,5 @@
 -- Each answer is one kind of an entry; the run that is mapped or unmapped is that of the definition.
-use borrow.Author.Needs.{needs}
+use Rattle.model.proofs.Prelude.{needs}
 use Rattle.files.proofs.Entries.{run-room, run-low, size-fits, size-room, did-write, did-size, did-add, did-remove, did-none}
 use Rattle.files.proofs.apply.Statement.{statement}
 use Rattle.files.proofs.apply.Tie as tie

@@ -1,5 +1,5 @@
 -- Each answer is one case of the definition.
-use borrow.Author.Needs.{needs}
+use Rattle.model.proofs.Prelude.{needs}
 use Rattle.files.proofs.Ends.{end-starts, end-round, end-unmapped, end-zeros}
 use Rattle.files.proofs.end_ok.Statement.{statement}
 use Rattle.files.proofs.end_ok.Tie as tie

@@ -1,5 +1,5 @@
 -- Each answer is one kind of an entry.
-use borrow.Author.Needs.{needs}
+use Rattle.model.proofs.Prelude.{needs}
 use Rattle.files.proofs.Entries.{ok-write, ok-size, ok-add, ok-remove, ok-none}
 use Rattle.files.proofs.entry_ok.Statement.{statement}
 use Rattle.files.proofs.entry_ok.Tie as tie

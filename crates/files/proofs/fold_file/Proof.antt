@@ -1,9 +1,5 @@
 -- The loop's invariant: the entries that are left are right if all are, and give, after the size and the table, the same file.
-use Prim.Native.Nat.{_*_, _≤_}
-use mathlib.Core.Path.{_≡_}
-use mathlib.Core.Bool.{true}
-use lib.ListN.{length}
-use borrow.Author.Needs.{needs}
+use Rattle.model.proofs.Prelude.{_*_, _≤_, _≡_, true, length, needs}
 use Rattle.model.specs.Lists.{all, foldl}
 use Rattle.model.specs.Words.{word}
 use Rattle.model.specs.Entry.{fileEntryOk}

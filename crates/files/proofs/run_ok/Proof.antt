@@ -1,5 +1,5 @@
 -- Each answer is one case of the definition; a sum is tested part by part, so that it fits.
-use borrow.Author.Needs.{needs}
+use Rattle.model.proofs.Prelude.{needs}
 use Rattle.model.specs.Entry.{fileEntryOk}
 use Rattle.words.proofs.Cond.{ands}
 use Rattle.files.proofs.Entries.{part-over, sum-over, sum-under}

@@ -1,7 +1,5 @@
 -- The loop's invariant: the first n file pages start below the size if and only if all do.
-use Prim.Native.Nat.{_≤_}
-use mathlib.Core.Path.{_≡_}
-use borrow.Author.Needs.{needs}
+use Rattle.model.proofs.Prelude.{_≤_, _≡_, needs}
 use Rattle.files.specs.State.{startsOk}
 use Rattle.files.proofs.Ends.{start-free, start-bad, start-end}
 use Rattle.files.proofs.starts_ok.Statement.{statement}

@@ -1,6 +1,5 @@
 -- The words and the bytes before them are all the bytes; a word is 0 exactly if its bytes are, since the volume's bytes are below 256.
-use native.Mathlib.Omega.{arith}
-use borrow.Author.Needs.{needs}
+use Rattle.model.proofs.Prelude.{arith, needs}
 use Rattle.files.proofs.Ends.{words-not, words-then}
 use Rattle.files.proofs.zeros_at.Statement.{statement}
 use Rattle.files.proofs.zeros_at.Tie as tie

@@ -1,5 +1,5 @@
 -- The buffer has the file's bytes below the size and zeros behind them, and its words are laid into the array.
-use borrow.Author.Needs.{needs}
+use Rattle.model.proofs.Prelude.{needs}
 use Rattle.fresh.proofs.Bytes.{cut-laid}
 use Rattle.fresh.proofs.lay_cut.Statement.{statement}
 use Rattle.fresh.proofs.lay_cut.Tie as tie

@@ -1,6 +1,5 @@
 -- `lay_bytes` lays the bytes that the slice's words have, and these are the slice's own.
-use borrow.Author.Needs.{needs}
-use native.Mathlib.Omega.{arith}
+use Rattle.model.proofs.Prelude.{needs, arith}
 use Rattle.fresh.proofs.Bytes.{over-laid}
 use Rattle.fresh.proofs.lay_over.Statement.{statement}
 use Rattle.fresh.proofs.lay_over.Tie as tie

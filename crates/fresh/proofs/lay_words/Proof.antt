@@ -1,7 +1,5 @@
 -- The loop's invariant: the words that are left, laid from here on, give all of them, laid from the start on.
-use Prim.Native.Nat.{_+_}
-use mathlib.Core.Path.{_≡_}
-use borrow.Author.Needs.{needs}
+use Rattle.model.proofs.Prelude.{_+_, _≡_, needs, length}
 use Rattle.model.specs.Words.{word}
 use Rattle.contents.specs.Laid.{laid}
 use Rattle.contents.proofs.Laying.{laid-put, laid-end}
@@ -10,7 +8,7 @@ use Rattle.fresh.proofs.lay_words.Tie as tie
 
 abbrev Inv-loop : tie.InvT-loop
 Inv-loop bytes fresh₀ count j₀ left₀ fresh j left =
-    (j + left ≡ count) × (laid fresh j (word bytes) j left ≡ laid fresh₀ 0 (word bytes) 0 count)
+    (j + left ≡ count) × (length fresh ≡ length fresh₀) × (laid fresh j (word bytes) j left ≡ laid fresh₀ 0 (word bytes) 0 count)
 
 abbrev μ-loop : tie.MeasureT-loop
 μ-loop bytes fresh₀ count j₀ left₀ fresh j left = left
@@ -28,4 +26,5 @@ lay-words-spec =
     (λ c. search needs)
     (λ c. search needs)
     (λ c. search (laid-put, needs))
+    (λ c. search needs)
     (λ c. search (laid-end, needs)))

@@ -1,5 +1,5 @@
 -- The buffer has the file's bytes of the pages with the bytes written over them, and its words are laid into the array.
-use borrow.Author.Needs.{needs}
+use Rattle.model.proofs.Prelude.{needs}
 use Rattle.fresh.proofs.Bytes.{write-laid}
 use Rattle.fresh.proofs.lay_write.Statement.{statement}
 use Rattle.fresh.proofs.lay_write.Tie as tie

@@ -1,5 +1,5 @@
 -- Each answer is one law of proofs/Judging.antt.
-use borrow.Author.Needs.{needs}
+use Rattle.model.proofs.Prelude.{needs}
 use Rattle.gate.proofs.Judging.{closed-refused, closed-open, closed-is}
 use Rattle.gate.proofs.Gates.{gate-dequeue, gate-enqueue, gate-long}
 use Rattle.gate.proofs.closed.Statement.{statement}

@@ -1,5 +1,5 @@
 -- The list's length is the check before the gate's.
-use borrow.Author.Needs.{needs}
+use Rattle.model.proofs.Prelude.{needs}
 use Rattle.gate.proofs.Judging.{short-list, long-list}
 use Rattle.gate.proofs.filling.Statement.{statement}
 use Rattle.gate.proofs.filling.Tie as tie

@@ -1,5 +1,5 @@
 -- Each answer is one law of proofs/Judging.antt.
-use borrow.Author.Needs.{needs}
+use Rattle.model.proofs.Prelude.{needs}
 use Rattle.gate.proofs.Judging.{judged-none, judged-is, judged-damaged, judged-good}
 use Rattle.gate.proofs.judged.Statement.{statement}
 use Rattle.gate.proofs.judged.Tie as tie

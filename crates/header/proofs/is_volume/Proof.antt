@@ -1,5 +1,5 @@
 -- A slice without a whole header is too short for a volume; of any other the three words decide.
-use borrow.Author.Needs.{needs}
+use Rattle.model.proofs.Prelude.{needs}
 use Rattle.header.proofs.Cases.{too-short, sizes-wrong, kind-decides}
 use Rattle.header.proofs.is_volume.Statement.{statement}
 use Rattle.header.proofs.is_volume.Tie as tie

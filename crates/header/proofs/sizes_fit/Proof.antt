@@ -1,5 +1,5 @@
 -- The sizes decide, and then the length; with good sizes the length that is asked for is a number of 64 bits.
-use borrow.Author.Needs.{needs}
+use Rattle.model.proofs.Prelude.{needs}
 use Rattle.words.proofs.Cond.{ands}
 use Rattle.header.proofs.Cases.{bytes-fit}
 use Rattle.header.proofs.sizes_fit.Statement.{statement}

@@ -1,5 +1,5 @@
 -- Each answer is one case of the comparison, word by word.
-use native.Mathlib.Omega.{arith}
+use Rattle.model.proofs.Prelude.{arith}
 use Rattle.log.specs.Entries.{nameIn}
 use Rattle.words.proofs.Cond.{ands′}
 use Rattle.index.specs.Index.{sameName}

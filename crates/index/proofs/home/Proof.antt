@@ -1,5 +1,5 @@
 -- The steps are those of the definition; what is below 2 ^ 32 is scaled below the count of slots.
-use native.Mathlib.Omega.{arith}
+use Rattle.model.proofs.Prelude.{arith}
 use Rattle.index.proofs.Looks.{scaled-fits, scaled-below, home-is}
 use Rattle.index.proofs.home.Statement.{statement}
 use Rattle.index.proofs.home.Tie as tie

@@ -1,5 +1,5 @@
 -- The slot after the last is the first.
-use native.Mathlib.Omega.{arith}
+use Rattle.model.proofs.Prelude.{arith}
 use Rattle.index.proofs.Looks.{slot-first, slot-after}
 use Rattle.index.proofs.next_slot.Statement.{statement}
 use Rattle.index.proofs.next_slot.Tie as tie

@@ -1,5 +1,5 @@
 -- Each answer is one case of the definition: the name is there, it is not and is not added, or it is added.
-use borrow.Author.Needs.{needs}
+use Rattle.model.proofs.Prelude.{needs}
 use Rattle.index.proofs.Looks.{note-known, note-absent, note-new}
 use Rattle.index.proofs.note.Statement.{statement}
 use Rattle.index.proofs.note.Tie as tie

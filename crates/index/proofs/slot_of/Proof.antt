@@ -1,8 +1,5 @@
 -- The invariant: the look-up from the slot reached ends where the whole look-up does.
-use Prim.Native.Nat.{_<_}
-use mathlib.Core.Path.{_≡_}
-use lib.ListN.{length}
-use native.Mathlib.Omega.{arith}
+use Rattle.model.proofs.Prelude.{_<_, _≡_, length, arith}
 use Rattle.model.specs.Words.{word}
 use Rattle.index.specs.Index.{endsAt, seek, slotOf}
 use Rattle.index.proofs.Looks.{slot-in, look-start, look-empty, look-found, look-on, look-spent}

@@ -1,5 +1,5 @@
 -- The steps are those of the definition.
-use native.Mathlib.Omega.{arith}
+use Rattle.model.proofs.Prelude.{arith}
 use Rattle.index.specs.Index.{spreadOf}
 use Rattle.index.proofs.spread.Statement.{statement}
 use Rattle.index.proofs.spread.Tie as tie

@@ -1,5 +1,5 @@
 -- Each half is below 2 ^ 32 and each factor below 2 ^ 29.
-use native.Mathlib.Omega.{arith}
+use Rattle.model.proofs.Prelude.{arith}
 use Rattle.index.specs.Index.{weighedOf}
 use Rattle.index.proofs.Looks.{weighs}
 use Rattle.index.proofs.weighed.Statement.{statement}

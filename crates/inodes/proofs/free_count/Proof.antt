@@ -1,7 +1,5 @@
 -- The loop's invariant: n is the count of the pages below p.
-use Prim.Native.Nat.{_-_, _≤_}
-use mathlib.Core.Path.{_≡_}
-use borrow.Author.Needs.{needs}
+use Rattle.model.proofs.Prelude.{_-_, _≤_, _≡_, needs}
 use Rattle.inodes.proofs.Unmarked.{countedBelow, count-start, count-next, count-end}
 use Rattle.inodes.proofs.free_count.Statement.{statement}
 use Rattle.inodes.proofs.free_count.Tie as tie

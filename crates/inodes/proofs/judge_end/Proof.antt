@@ -1,5 +1,5 @@
 -- The end, the log pages and the data pages one after the other: the first that fails answers no.
-use borrow.Author.Needs.{needs}
+use Rattle.model.proofs.Prelude.{needs}
 use Rattle.inodes.proofs.Cases.{end-size, end-room, table-in, log-some, end-not, log-not, table-is}
 use Rattle.inodes.proofs.judge_end.Statement.{statement}
 use Rattle.inodes.proofs.judge_end.Tie as tie

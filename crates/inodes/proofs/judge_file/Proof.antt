@@ -1,5 +1,5 @@
 -- What `file_state` answered says whether the log is good, and with the table it is the file.
-use borrow.Author.Needs.{needs}
+use Rattle.model.proofs.Prelude.{needs}
 use Rattle.inodes.proofs.Cases.{state-good, state-file, file-bad, file-good}
 use Rattle.inodes.proofs.judge_file.Statement.{statement}
 use Rattle.inodes.proofs.judge_file.Tie as tie

@@ -1,6 +1,5 @@
 -- The loop's invariant: the inodes below k are good, and the marks are those of their pages.
-use Prim.Native.Nat.{_-_, _≤_, _<_}
-use borrow.Author.Needs.{needs}
+use Rattle.model.proofs.Prelude.{_-_, _≤_, _<_, needs}
 use Rattle.model.specs.Words.{word}
 use Rattle.model.specs.Journal.{view}
 use Rattle.inodes.specs.Judged.{Below}

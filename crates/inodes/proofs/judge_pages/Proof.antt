@@ -1,5 +1,5 @@
 -- The directory's inode and the files one after the other, and the law that pages marked once serve once.
-use borrow.Author.Needs.{needs}
+use Rattle.model.proofs.Prelude.{needs}
 use Rattle.inodes.proofs.Inodes.{root-next, root-not}
 use Rattle.inodes.proofs.Once.{served}
 use Rattle.inodes.proofs.judge_pages.Statement.{statement}

@@ -1,5 +1,5 @@
 -- Each answer is one case of the definition's tests.
-use borrow.Author.Needs.{needs}
+use Rattle.model.proofs.Prelude.{needs}
 use Rattle.inodes.proofs.Unmarked.{table-page, marked-page, unmarked-page}
 use Rattle.inodes.proofs.unmarked_at.Statement.{statement}
 use Rattle.inodes.proofs.unmarked_at.Tie as tie

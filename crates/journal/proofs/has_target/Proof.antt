@@ -1,7 +1,5 @@
 -- The loop's invariant: t stands among the targets that are left if and only if it stands among all.
-use Prim.Native.Nat.{_<_}
-use mathlib.Core.Path.{_≡_}
-use borrow.Author.Needs.{needs}
+use Rattle.model.proofs.Prelude.{_<_, _≡_, needs}
 use Rattle.model.specs.Words.{word}
 use Rattle.model.specs.Lists.{has}
 use Rattle.journal.specs.Targets.{targets}

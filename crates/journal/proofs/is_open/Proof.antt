@@ -1,5 +1,5 @@
 -- The journal is open if the count that `open_count` answered is above 0, by definition.
-use borrow.Author.Needs.{needs}
+use Rattle.model.proofs.Prelude.{needs}
 use Rattle.model.specs.Journal.{isOpen}
 use Rattle.journal.proofs.is_open.Statement.{statement}
 use Rattle.journal.proofs.is_open.Tie as tie

@@ -1,5 +1,5 @@
 -- Each answer is one case of the definition's tests.
-use borrow.Author.Needs.{needs}
+use Rattle.model.proofs.Prelude.{needs}
 use Rattle.model.specs.Journal.{journalOk}
 use Rattle.words.proofs.Cond.{ands′}
 use Rattle.journal.proofs.journal_ok.Statement.{statement}

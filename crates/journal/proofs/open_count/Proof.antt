@@ -1,5 +1,5 @@
 -- The count is the distance between the two words that were read, by definition.
-use borrow.Author.Needs.{needs}
+use Rattle.model.proofs.Prelude.{needs}
 use Rattle.model.specs.Journal.{openCount}
 use Rattle.journal.proofs.open_count.Statement.{statement}
 use Rattle.journal.proofs.open_count.Tie as tie

@@ -1,7 +1,7 @@
 -- Each answer is one case of the definition's tests.
-use borrow.Author.Needs.{needs}
+use Rattle.model.proofs.Prelude.{needs}
 use Rattle.model.specs.Journal.{targetOk}
-use Rattle.words.proofs.Cond.{ands}
+use Rattle.words.proofs.Cond.{ands′}
 use Rattle.journal.proofs.target_ok.Statement.{statement}
 use Rattle.journal.proofs.target_ok.Tie as tie
 
@@ -10,8 +10,7 @@ unfolding targetOk
 target-ok-spec =
     tie.close
     (tie.spec
-    (λ c. search ands)
-    (λ c. search needs)
-    (λ c. search needs)
-    (λ c. search ands)
-    (λ c. search ands))
+    (λ c. search ands′)
+    (λ c κs. search needs)
+    (λ c. search ands′)
+    (λ c. search ands′))

@@ -1,7 +1,5 @@
 -- The loop's invariant: the targets that are left differ if and only if all do, since each passed stands not among those after it.
-use Prim.Native.Nat.{_<_}
-use mathlib.Core.Path.{_≡_}
-use borrow.Author.Needs.{needs}
+use Rattle.model.proofs.Prelude.{_<_, _≡_, needs}
 use Rattle.model.specs.Words.{word}
 use Rattle.model.specs.Lists.{distinct}
 use Rattle.model.specs.Journal.{openTargets}

@@ -1,7 +1,5 @@
 -- The loop's invariant: the targets that are left are all good if and only if all are.
-use Prim.Native.Nat.{_<_}
-use mathlib.Core.Path.{_≡_}
-use borrow.Author.Needs.{needs}
+use Rattle.model.proofs.Prelude.{_<_, _≡_, needs}
 use Rattle.model.specs.Words.{word}
 use Rattle.model.specs.Lists.{all}
 use Rattle.model.specs.Journal.{openTargets, targetOk}

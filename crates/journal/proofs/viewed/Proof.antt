@@ -1,7 +1,5 @@
 -- The loop's invariant: what is left to put back, put back from p on, gives the view of the word.
-use Prim.Native.Nat.{_<_}
-use mathlib.Core.Path.{_≡_}
-use borrow.Author.Needs.{needs}
+use Rattle.model.proofs.Prelude.{_<_, _≡_, needs}
 use Rattle.model.specs.Words.{word}
 use Rattle.model.specs.Journal.{positions, putBack, view}
 use Rattle.journal.proofs.Turns.{back-start, back-here, back-next, back-end}

@@ -1,7 +1,5 @@
 -- The loop's invariant: the search from inode k on finds what the whole search finds.
-use Prim.Native.Nat.{_-_}
-use mathlib.Core.Path.{_≡_}
-use borrow.Author.Needs.{needs}
+use Rattle.model.proofs.Prelude.{_-_, _≡_, needs}
 use Rattle.model.specs.Words.{word}
 use Rattle.model.specs.Journal.{view}
 use Rattle.links.proofs.Lowest.{invalidFrom, invalid-here, invalid-next, invalid-none}

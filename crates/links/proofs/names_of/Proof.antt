@@ -1,9 +1,5 @@
 -- The loop's invariant: the names found, and those among the places that are left, are all that lead to the inode.
-use Prim.Native.Nat.{_+_, _≤_}
-use mathlib.Core.Path.{_≡_}
-use mathlib.Core.Bool.{true}
-use lib.ListN.{length, take}
-use borrow.Author.Needs.{needs}
+use Rattle.model.proofs.Prelude.{_+_, _≤_, _≡_, true, length, take, needs}
 use Rattle.model.specs.Lists.{all, count as times}
 use Rattle.model.specs.Words.{word}
 use Rattle.model.specs.State.{inodes}

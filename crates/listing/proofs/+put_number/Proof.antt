@@ -1,7 +1,5 @@
 -- A number below 10 is its one digit; another is put as what is left without its last digit, and then that digit. The number falls.
-use Prim.Native.Nat.{ℕ, _<_}
-use borrow.Author.Needs.{needs}
-use native.Mathlib.Omega.{arith}
+use Rattle.model.proofs.Prelude.{ℕ, _<_, needs, arith}
 use borrow.Fn.Kinds.{In}
 use borrow.Fn.PlainCycle.{Measures, is, falls, and}
 use Rattle.listing.proofs.Putting.{number-one, number-more, room-one, room-before, room-last}

@@ -1,5 +1,5 @@
 -- The file's log is good, so that its state is what the log means.
-use borrow.Author.Needs.{needs}
+use Rattle.model.proofs.Prelude.{needs}
 use Rattle.listing.proofs.Files.{size-is}
 use Rattle.listing.proofs.file_size.Statement.{statement}
 use Rattle.listing.proofs.file_size.Tie as tie

@@ -1,5 +1,5 @@
 -- A refusal is put as its line, by the length or by the gate; else the text is put. Every listing has room.
-use borrow.Author.Needs.{needs}
+use Rattle.model.proofs.Prelude.{needs}
 use Rattle.listing.proofs.Fits.{refusal-room}
 use Rattle.listing.proofs.Text.{long-put, refused-put, gate-tables, passed-put, listed}
 use Rattle.listing.proofs.lay_listing.Statement.{statement}

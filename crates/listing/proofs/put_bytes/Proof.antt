@@ -1,7 +1,5 @@
 -- The loop's invariant: the bytes that are left, put from here on, give all of them, put from the start on.
-use Prim.Native.Nat.{_-_}
-use lib.ListN.{length, drop}
-use borrow.Author.Needs.{needs}
+use Rattle.model.proofs.Prelude.{_-_, length, drop, needs}
 use Rattle.stores.proofs.Emitting.{Rest}
 use Rattle.listing.proofs.Putting.{byte-room, byte-next, bytes-end}
 use Rattle.listing.proofs.put_bytes.Statement.{statement}

@@ -1,6 +1,5 @@
 -- The line of a name, with what its entry and its file say.
-use native.Mathlib.Omega.{arith}
-use borrow.Author.Needs.{needs}
+use Rattle.model.proofs.Prelude.{arith, needs}
 use Rattle.listing.proofs.Names.{entry-in, same-file, file-room, file-put}
 use Rattle.listing.proofs.put_file.Statement.{statement}
 use Rattle.listing.proofs.put_file.Tie as tie

@@ -1,8 +1,5 @@
 -- The loop's invariant: the lines of the names that are left, put from here on, give those of all, put from the start on.
-use Prim.Native.Nat.{_-_}
-use lib.ListN.{take}
-use lib.Seq.{slice}
-use borrow.Author.Needs.{needs}
+use Rattle.model.proofs.Prelude.{_-_, take, slice, needs}
 use Rattle.model.specs.Words.{word}
 use Rattle.model.specs.Journal.{view}
 use Rattle.model.specs.Listing.{nameLines}

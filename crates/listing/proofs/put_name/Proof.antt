@@ -1,5 +1,5 @@
 -- A name filled up with zeros begins with the name.
-use borrow.Author.Needs.{needs}
+use Rattle.model.proofs.Prelude.{needs}
 use Rattle.listing.proofs.Lines.{name-in, name-length, name-room, name-put}
 use Rattle.listing.proofs.put_name.Statement.{statement}
 use Rattle.listing.proofs.put_name.Tie as tie

@@ -1,5 +1,5 @@
 -- Each answer is one kind of the definition, by the first word.
-use borrow.Author.Needs.{needs}
+use Rattle.model.proofs.Prelude.{needs}
 use Rattle.log.proofs.Facts.{is-write, is-size, is-add, is-remove, is-none}
 use Rattle.log.proofs.entry_of.Statement.{statement}
 use Rattle.log.proofs.entry_of.Tie as tie

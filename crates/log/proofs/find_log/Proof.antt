@@ -1,5 +1,5 @@
 -- The head and the tail come from the view; the log that they mean is read from the raw memory, which is the same there.
-use borrow.Author.Needs.{needs}
+use Rattle.model.proofs.Prelude.{needs}
 use Rattle.log.proofs.Viewed.{log-lost, start-room, log-there}
 use Rattle.log.proofs.find_log.Statement.{statement}
 use Rattle.log.proofs.find_log.Tie as tie
@@ -8,11 +8,9 @@ pub find-log-spec : {M : Type 1} → statement M
 find-log-spec =
     tie.close
     (tie.spec
-    (λ c. search needs)
-    (λ c. search needs)
     (λ c κs. search needs)
-    (λ c. search needs)
-    (λ c. search needs)
+    (λ c κs. search needs)
+    (λ c κs. search needs)
     (λ c κs. search needs)
     (λ c κs. search needs)
     (λ c. search (log-lost, needs))

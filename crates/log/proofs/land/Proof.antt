@@ -1,5 +1,5 @@
 -- Each answer is one case of the definition: at a footer or not.
-use borrow.Author.Needs.{needs}
+use Rattle.model.proofs.Prelude.{needs}
 use Rattle.log.proofs.Facts.{landed-next, landed-here, landed-fits}
 use Rattle.log.proofs.land.Statement.{statement}
 use Rattle.log.proofs.land.Tie as tie
@@ -8,6 +8,7 @@ pub land-spec : {M : Type 1} → statement M
 land-spec =
     tie.close
     (tie.spec
+    (λ c. search needs)
     (λ c κs. search needs)
     (λ c. search (landed-fits, needs))
     (λ c. search (landed-next, needs))

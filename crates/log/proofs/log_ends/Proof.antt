@@ -1,7 +1,5 @@
 -- The loop's invariant: the walk from p with the steps that are left ends if and only if the whole walk does.
-use borrow.Author.Needs.{needs}
-use Prim.Native.Nat.{_≤_}
-use mathlib.Core.Path.{_≡_}
+use Rattle.model.proofs.Prelude.{needs, _≤_, _≡_}
 use Rattle.model.specs.Lists.{isSome}
 use Rattle.model.specs.Words.{word}
 use Rattle.model.specs.Log.{walk}
@@ -24,8 +22,7 @@ log-ends-spec =
     (λ c. search (ends-low, needs))
     (λ c. search (ends-high, needs))
     (λ c. search (ends-here, needs))
-    (λ c. search needs)
-    (λ c. search needs)
+    (λ c κs. search needs)
     (λ c κs. search needs)
     (λ c. search needs)
     (λ c. search needs)

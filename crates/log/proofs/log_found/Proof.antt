@@ -1,5 +1,5 @@
 -- A tail that is not 0 is right if it is a multiple of 64 and none of 512; then the walk decides.
-use borrow.Author.Needs.{needs}
+use Rattle.model.proofs.Prelude.{needs}
 use Rattle.log.proofs.Facts.{found-empty, found-odd, found-round, found-walk}
 use Rattle.log.proofs.log_found.Statement.{statement}
 use Rattle.log.proofs.log_found.Tie as tie

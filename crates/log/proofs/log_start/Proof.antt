@@ -1,5 +1,5 @@
 -- Each answer is one case of the definition: an empty log or not.
-use borrow.Author.Needs.{needs}
+use Rattle.model.proofs.Prelude.{needs}
 use Rattle.log.proofs.Facts.{start-empty, start-full, start-fits}
 use Rattle.log.proofs.log_start.Statement.{statement}
 use Rattle.log.proofs.log_start.Tie as tie

@@ -1,5 +1,5 @@
 -- A part's first entry is the volume's at that word, and the rest of the step is by definition.
-use borrow.Author.Needs.{needs}
+use Rattle.model.proofs.Prelude.{needs}
 use Rattle.log.proofs.Facts.{is-step}
 use Rattle.log.proofs.log_step.Statement.{statement}
 use Rattle.log.proofs.log_step.Tie as tie

@@ -1,5 +1,5 @@
 -- The five words are the fields of the definition.
-use borrow.Author.Needs.{needs}
+use Rattle.model.proofs.Prelude.{needs}
 use Rattle.log.proofs.Facts.{is-name}
 use Rattle.log.proofs.name_of.Statement.{statement}
 use Rattle.log.proofs.name_of.Tie as tie

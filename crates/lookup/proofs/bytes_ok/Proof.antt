@@ -1,8 +1,5 @@
 -- The loop's invariant: the bytes that are left are such as names have if and only if all are.
-use Prim.Native.Nat.{_-_}
-use mathlib.Core.Path.{_≡_}
-use lib.ListN.{length, drop}
-use borrow.Author.Needs.{needs}
+use Rattle.model.proofs.Prelude.{_-_, _≡_, length, drop, needs}
 use Rattle.model.specs.Lists.{all}
 use Rattle.model.specs.Entry.{nameByteOk}
 use Rattle.lookup.proofs.Bytes.{byte-zero, byte-slash, byte-next, bytes-end}

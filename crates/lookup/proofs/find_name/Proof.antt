@@ -1,9 +1,5 @@
 -- The loop's invariant: among the places that are left the name leads to the inode to which it leads among all.
-use Prim.Native.Nat.{_-_}
-use mathlib.Core.Path.{_≡_}
-use lib.ListN.{take}
-use lib.Seq.{slice}
-use borrow.Author.Needs.{needs}
+use Rattle.model.proofs.Prelude.{_-_, _≡_, take, slice, needs}
 use Rattle.model.specs.Words.{word}
 use Rattle.model.specs.State.{inodeOf}
 use Rattle.directory.specs.Places.{standing}

@@ -1,5 +1,5 @@
 -- A name of another length is another name; a name of the same length is the same exactly if its bytes are.
-use borrow.Author.Needs.{needs}
+use Rattle.model.proofs.Prelude.{needs}
 use Rattle.lookup.proofs.Fields.{named-not, named-if}
 use Rattle.lookup.proofs.has_name.Statement.{statement}
 use Rattle.lookup.proofs.has_name.Tie as tie

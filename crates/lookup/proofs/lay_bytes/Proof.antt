@@ -1,9 +1,5 @@
 -- The loop's invariant: the buffer has the first i bytes laid, and is as it was from there on.
-use Prim.Native.Nat.{_-_, _≤_}
-use mathlib.Core.Path.{_≡_}
-use lib.ListN.{length}
-use lib.Seq.{paste}
-use borrow.Author.Needs.{needs}
+use Rattle.model.proofs.Prelude.{_-_, _≤_, _≡_, length, paste, needs}
 use Rattle.model.specs.Lists.{valuesFrom}
 use Rattle.model.specs.Words.{word, byteAt}
 use Rattle.lookup.proofs.Bytes.{laid-next, laid-all}

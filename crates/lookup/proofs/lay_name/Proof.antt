@@ -1,6 +1,5 @@
 -- The 32 bytes of the name field are the name and zeros, since the entry's name field is as it should be.
-use native.Mathlib.Omega.{arith}
-use borrow.Author.Needs.{needs}
+use Rattle.model.proofs.Prelude.{arith, needs}
 use Rattle.lookup.proofs.Fields.{length-is, laid-name}
 use Rattle.lookup.proofs.Places.{place-in, place-field}
 use Rattle.lookup.proofs.lay_name.Statement.{statement}

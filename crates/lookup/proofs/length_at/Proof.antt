@@ -1,5 +1,5 @@
 -- A name field that is as it should be has a name of at most 32 bytes.
-use borrow.Author.Needs.{needs}
+use Rattle.model.proofs.Prelude.{needs}
 use Rattle.lookup.proofs.Fields.{length-short}
 use Rattle.lookup.proofs.length_at.Statement.{statement}
 use Rattle.lookup.proofs.length_at.Tie as tie

@@ -1,8 +1,5 @@
 -- The loop's invariant: the bytes that are left are the same if and only if all are.
-use Prim.Native.Nat.{_-_}
-use mathlib.Core.Path.{_≡_}
-use lib.ListN.{length, drop}
-use borrow.Author.Needs.{needs}
+use Rattle.model.proofs.Prelude.{_-_, _≡_, length, drop, needs}
 use Rattle.model.specs.Lists.{sameList, valuesFrom}
 use Rattle.model.specs.Words.{word, byteAt}
 use Rattle.lookup.proofs.Bytes.{same-not, same-next, same-end}

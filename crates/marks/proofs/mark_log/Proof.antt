@@ -1,13 +1,11 @@
 -- The loop's invariant: to mark the pages of the walk that is left, on the marks so far, is to mark all pages on the marks at first.
-use Prim.Native.Nat.{_≤_}
-use mathlib.Core.Path.{_≡_}
-use mathlib.Core.Bool.{true}
-use borrow.Author.Needs.{needs}
+use Rattle.model.proofs.Prelude.{_≤_, _≡_, true, needs}
 use Rattle.model.specs.Lists.{isSome}
 use Rattle.model.specs.Words.{word}
 use Rattle.model.specs.Log.{walk}
 use Rattle.marks.specs.Marks.{fresh, marked}
-use Rattle.marks.proofs.Turns.{pagesFrom, walk-low, walk-room, walk-mul, walk-add, walk-turn, log-fresh, log-marked, log-last, log-not, log-never}
+use Rattle.marks.proofs.Turns.{pagesFrom, walk-low, walk-index, walk-room, walk-turn}
+use Rattle.marks.proofs.Turns.{log-fresh, log-marked, log-last, log-not, log-never}
 use Rattle.marks.proofs.mark_log.Statement.{statement}
 use Rattle.marks.proofs.mark_log.Tie as tie
 
@@ -30,8 +28,7 @@ mark-log-spec =
     (λ c κs. search (walk-low, needs))
     (λ c. search (log-not, needs))
     (λ c. search (log-last, needs))
-    (λ c. search (walk-mul, needs))
-    (λ c. search (walk-add, needs))
+    (λ c κs. search (walk-index, needs))
     (λ c κs. search (walk-room, needs))
     (λ c. search needs)
     (λ c. search needs)

@@ -1,8 +1,5 @@
 -- The loop's invariant: to mark the data pages that are left, on the marks so far, is to mark all on the marks at first.
-use Prim.Native.Nat.{_+_}
-use mathlib.Core.Path.{_≡_}
-use mathlib.Core.Bool.{true}
-use borrow.Author.Needs.{needs}
+use Rattle.model.proofs.Prelude.{_+_, _≡_, true, needs}
 use Rattle.model.specs.Lists.{all}
 use Rattle.model.specs.Layout.{inPages}
 use Rattle.marks.specs.Marks.{fresh, marked, mapped}

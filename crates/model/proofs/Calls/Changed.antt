@@ -1,21 +1,13 @@
 -- A call changes one inode k: the others read as before, or are let go, or are new and empty. So the uses of a page grow by what the call takes,
 -- and no page serves twice.
-use mathlib.Core.Path.{_≡_, refl, sym, _∙_}
-use mathlib.Core.Logic.{_⊎_, inl, inr, ⊎-elim}
-use Prim.Native.Nat.{ℕ, zero, suc, _+_, _*_, _/_, _≤_, _<_}
-use mathlib.Core.Bool.{Bool, true, false, cond, not}
-use mathlib.Core.List.{List, [], _∷_, _++_}
-use native.Mathlib.Omega.{arith}
-use native.Mathlib.Nat.{le-of-eq}
-use lib.Dec.{leb, eqb}
-use borrow.Author.Tests.{eqb-true, eq-eqb, ne-eqb}
+use Rattle.model.proofs.Prelude.{_≡_, refl, sym, _∙_, _⊎_, ⊎-elim, ℕ, zero, suc, _+_, _≤_, _<_, true, false, List, [], arith, le-of-eq, eqb, eqb-true, eq-eqb, ne-eqb}
 use Rattle.model.specs.Lists.{bit, allBelow, sumBelow, all, count, foldl}
 use Rattle.model.specs.Words.{Mem}
 use Rattle.model.specs.Layout.{validWord, tailWord, root, isDirectory}
-use Rattle.model.specs.Log.{logPages, pages, entries}
-use Rattle.model.specs.State.{File, emptyFile, fileOf, bytesOf, namesOf}
-use Rattle.model.specs.Accept.{isValid, isFile, mappedTo, usesBy, uses, free, validOk, logOk, namesOk, endOk, inodeOk, viewOk}
-use Rattle.model.proofs.Tests.{by-bool, by-eq, ands}
+use Rattle.model.specs.Log.{pages}
+use Rattle.model.specs.State.{emptyFile, fileOf, namesOf}
+use Rattle.model.specs.Accept.{isValid, mappedTo, usesBy, uses, validOk, logOk, namesOk, endOk, inodeOk, viewOk}
+use Rattle.model.proofs.Tests.{by-bool, by-eq}
 use Rattle.model.proofs.Lists.{sumBelow-le}
 use Rattle.model.proofs.Log.Extend.{empty-log}
 use Rattle.model.proofs.Frame.Inode.{Agree, same-usesBy, same-inodeOk}
@@ -43,7 +35,7 @@ module _ (u : Mem) (P N i : ℕ) (t : u (tailWord i) ≡ 0) where
 
   new-log-ok : logOk u P N i ≡ true
   unfolding logOk all
-  new-log-ok = rw (empty-log u P N i t .0, empty-log u P N i t .1) (by-bool (isDirectory i) (λ e. rw e) (λ e. rw e))
+  new-log-ok = rw (empty-log u P N i t .0, empty-log u P N i t .1) (by-bool (isDirectory u i) (λ e. rw e) (λ e. rw e))
 
 empty-mapped : (p : ℕ) → (p ≡ 0 → ⊥) → mappedTo emptyFile p ≡ 0
 unfolding mappedTo emptyFile bit sumBelow
@@ -113,7 +105,7 @@ module _ {m u : Mem} {P N k : ℕ} {ls : List ℕ} {e : ℕ → ℕ} (c : Change
   unfolding validOk
   own-ok =
       fine-inode u P N k (record {
-        valid-word = by-bool (isDirectory k) (λ d. rw d (c .is-valid)) (λ d. rw (d, eqb-true (u (validWord k)) 1 (c .is-valid)));
+        valid-word = by-bool (isDirectory u k) (λ d. rw d (c .is-valid)) (λ d. rw (d, eqb-true (u (validWord k)) 1 (c .is-valid)));
         log = λ v. c .log-fine;
         end = λ f. c .ends (file-is u k f .0);
       })

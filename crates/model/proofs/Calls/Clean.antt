@@ -1,44 +1,35 @@
 -- Clean does what it owes: the log written anew means the file or the names that the old one meant, and everything else is kept.
-use mathlib.Core.Path.{_≡_, refl, sym, _∙_, ap}
-use mathlib.Core.Logic.{⊎-elim}
-use Prim.Native.Nat.{ℕ, _+_, _*_, _/_, _%_, _^_, _≤_, _<_}
-use mathlib.Core.Bool.{Bool, true, false, cond, _&&_, _||_, not}
-use mathlib.Core.List.{List, [], _∷_, map}
-use mathlib.Core.Option.{none, some}
-use native.Mathlib.Omega.{arith}
-use lib.ListN.{length, getD}
-use lib.Dec.{leb, ltb, eqb}
-use borrow.Author.Tests.{eqb-true, eqb-false, leb-false, eq-eqb, ne-eqb, not-false}
-use Rattle.model.specs.Lists.{bit, all, has, count, distinct, foldl, lowestFew}
+use Rattle.model.proofs.Prelude.{_≡_, refl, sym, _∙_, ap, ⊎-elim, ℕ, _/_, _<_, true, cond, not, List, [], _∷_, map, none, arith, length, getD, leb, leb-false, eq-eqb, ne-eqb, not-false}
+use Rattle.model.specs.Lists.{all, has, count, distinct, foldl}
 use Rattle.model.specs.Words.{Mem}
-use Rattle.model.specs.Layout.{sizesOk, inPages, validWord, headWord, tailWord, root, isDirectory}
+use Rattle.model.specs.Layout.{inPages, validWord, headWord, tailWord, root, isDirectory}
 use Rattle.model.specs.Journal.{targetOk}
-use Rattle.model.specs.Entry.{addWords, fileEntryOk, nameEntryOk}
-use Rattle.model.specs.Log.{pages, entries}
-use Rattle.model.specs.State.{File, emptyFile, fileStep, fileOf, bytesOf, Names, nameStep, namesOf}
-use Rattle.model.specs.Accept.{isValid, isFile, mappedTo, free, logOk, endOk, viewOk}
+use Rattle.model.specs.Entry.{fileEntryOk, nameEntryOk}
+use Rattle.model.specs.Log.{pages}
+use Rattle.model.specs.State.{emptyFile, fileStep, fileOf, nameStep, namesOf}
+use Rattle.model.specs.Accept.{isValid, isFile, free, logOk, viewOk}
 use Rattle.model.specs.FileMap.{mapOf, mapAfter, clean}
 use Rattle.model.specs.Stores.{Stores, over}
-use Rattle.model.specs.Calls.{Change, layEntries, tailAfter, pagesFor, targets, commitTogether, cleanFile, cleanNames, cleanEntries, cleanPages, isEmptyLog, cleanChecks, cleanGroups}
-use Rattle.model.proofs.Tests.{by-bool, by-eq, no, ands, or-false, within, outside}
+use Rattle.model.specs.Calls.{Change, Append, layEntries, tailAfter, pagesFor, targets, entriesOnly, freshLog, roomChecks, actionChecks, actionGroups, cleanEntries, cleanAction}
+use Rattle.model.proofs.Tests.{by-eq, or-false}
 use Rattle.model.proofs.Lists.{all-by}
-use Rattle.model.proofs.Log.Decode.{decode, name-short}
+use Rattle.model.proofs.Log.Decode.{decode}
 use Rattle.model.proofs.Log.Pages.{Reads}
 use Rattle.model.proofs.Log.Live.{lay-in}
 use Rattle.model.proofs.Log.Extend.{fresh-log}
 use Rattle.model.proofs.Frame.Placed.{sizes-whole, in-bounds, SamePages}
 use Rattle.model.proofs.Frame.Inode.{Agree, file-placed, same-names, same-bytes}
 use Rattle.model.proofs.Frame.View.{inode-fine, view-fine, file-is, inode-ok, log-ok, root-valid}
-use Rattle.model.proofs.Frame.Dead.{Dead, low, frame}
-use Rattle.model.proofs.State.Bytes.{small-file, kept-bytes, kept-end}
+use Rattle.model.proofs.State.Bytes.{kept-bytes, kept-end}
 use Rattle.model.proofs.State.Clean.{clean-file, clean-file-ok}
 use Rattle.model.proofs.State.NamesAfter.{kept-names}
-use Rattle.model.proofs.State.NameEntries.{GoodName, GoodNames, names-good, names-in, clean-names, clean-names-ok}
+use Rattle.model.proofs.State.NameEntries.{names-good, names-in, clean-names, clean-names-ok}
 use Rattle.model.proofs.State.Maps.{SameBytes, kept-map}
 use Rattle.model.proofs.Crash.Stores.{over-some}
-use Rattle.model.proofs.Crash.Commit.{Ready, ready-view, committed, Owed, Sound, together-safe, nothing-safe}
+use Rattle.model.proofs.Crash.Commit.{Ready, ready-view, committed, Owed, nothing-safe}
 use Rattle.model.proofs.Crash.History.{Duty}
-use Rattle.model.proofs.Calls.Room.{Fresh, fresh-few, free-in, free-bounds, log-room, room-lone}
+use Rattle.model.proofs.Calls.Room.{Fresh, free-in, free-bounds, log-room, room-lone, room-found}
+use Rattle.model.proofs.Calls.Actions.{one-room, fresh-anew, anew-prepared, anew-changes, owed-sound}
 use Rattle.model.proofs.Calls.Still.{still-lay}
 use Rattle.model.proofs.Calls.Changed.{changed-fine}
 use Rattle.model.proofs.Calls.Stored.{Stored, high-same, valid-same, file-words, agree-after, after-by}
@@ -51,8 +42,11 @@ module _ (P N : ℕ) (m : Mem) (r : Ready P N m) (k : ℕ) (below : k < N) (vali
   abbrev es : List (List ℕ)
   es = cleanEntries m P N k
 
+  abbrev a : Append
+  a = entriesOnly true k es
+
   abbrev ls : List ℕ
-  ls = cleanPages m P N k
+  ls = freshLog m P (free m P N) a
 
   abbrev s : Stores
   s = layEntries ls 0 es
@@ -86,14 +80,14 @@ module _ (P N : ℕ) (m : Mem) (r : Ready P N m) (k : ℕ) (below : k < N) (vali
 
   file-means : (k ≡ 0 → ⊥) → foldl fileStep emptyFile (map decode es) ≡ fileOf m P N k
   unfolding cleanEntries
-  file-means n = rw (ne-eqb _ _ n) (clean-file P N (fileOf m P N k) (file-placed m P N k was-ok n))
+  file-means n = rw (ne-eqb _ _ n) (clean-file (fileOf m P N k) P N (file-placed m P N k was-ok n))
 
-  entries-fit : cond (isDirectory k) (all (nameEntryOk N) (map decode es)) (all (fileEntryOk P N) (map decode es)) ≡ true
+  entries-fit : cond (isDirectory m k) (all (nameEntryOk N) (map decode es)) (all (fileEntryOk P N) (map decode es)) ≡ true
   unfolding cleanEntries
   entries-fit =
       by-eq k 0
       (λ q. rw (eq-eqb k 0 q, q) (clean-names-ok N (namesOf m P N root) (names-good m P N root refl root-ok)))
-      (λ n. rw (ne-eqb k 0 n) (clean-file-ok P N (fileOf m P N k) (file-placed m P N k was-ok n) (small-was P N m r k below (file-is-file n))))
+      (λ n. rw (ne-eqb k 0 n) (clean-file-ok (fileOf m P N k) P N (file-placed m P N k was-ok n) (small-was P N m r k below (file-is-file n))))
 
   entries-small : SmallEntries es
   unfolding cleanEntries
@@ -168,15 +162,15 @@ module _ (P N : ℕ) (m : Mem) (r : Ready P N m) (k : ℕ) (below : k < N) (vali
         (λ q. same-bytes m now P N i (log-ok m P N ok i l (v .1)) (agree-now i l q (v .1)) (v .0))
 
     fine-now : viewOk now P N ≡ true
-    unfolding pages logOk bit
+    unfolding pages logOk count
     fine-now =
-        changed-fine {ls = ls} {e = λ p. bit (within 0 (0 + 0) p)} (record {
+        changed-fine {ls = ls} {e = λ p. count p []} (record {
           was-fine = ok;
           was-valid = valid;
           is-valid = rw (valid-now k below) valid;
           log-fine = rw (reads-now .0, reads-now .1) entries-fit;
           longer = λ p. rw (reads-now .0) (omega arith);
-          lone = room-lone m P N 0 0 ls (pagesFor (length es)) (log-room m P N ls (pagesFor (length es)) fresh);
+          lone = room-lone m P N [] 0 ls (pagesFor (length es)) (log-room m P N ls (pagesFor (length es)) fresh);
           maps = λ n p z. rw (file-now n) (omega arith);
           ends = λ n. rw (file-now n) (kept-end m now (fileOf m P N k) (same-pages n) ∙ inode-fine m P N k (inode-ok m P N ok k below) .end (file-is-file n));
           others = λ i l n. after-by did i l (off (validWord i) (omega arith) (omega arith)) (off (tailWord i) (omega arith) (omega arith)) (off (headWord i) (omega arith) (omega arith));
@@ -200,14 +194,16 @@ module _ (P N : ℕ) (m : Mem) (r : Ready P N m) (k : ℕ) (below : k < N) (vali
         }
 
 module _ (P N : ℕ) (m : Mem) (r : Ready P N m) where
-  pub clean-done : (k : ℕ) → Duty P N m (clean k) (cleanChecks m P N k) (cleanGroups m P N k)
-  unfolding cleanChecks cleanGroups isEmptyLog cleanPages mapAfter
+  pub clean-done : (k : ℕ) → Duty P N m (clean k) (cleanAction m P N k)
+  unfolding actionChecks actionGroups roomChecks cleanAction mapAfter
   clean-done k bytes p =
       let o = or-false (leb N k) (not (isValid m k)) (p .0) in
       let l = leb-false N k (o .0) in
       let v = not-false _ (o .1) in
       by-eq (m (tailWord k)) 0
       (λ e. rw (eq-eqb _ _ e) (nothing-safe P N m _ r refl))
-      (λ e. rw (ne-eqb _ _ e)
-      (together-safe P N (DeadIn P N) (λ u u′ o d. let f = frame P N (r .sizes) u u′ o d in (f .0, f .1)) (λ u w h. low h) m r _ _ _
-      (clean-owed P N m r k l v (fresh-few m P N (free m P N) (pagesFor (length (cleanEntries m P N k))) (λ x h. h) (rw (ne-eqb _ _ e) at (p .1 .0))))))
+      (λ e.
+      let es = cleanEntries m P N k in
+      let room = room-found m P N (entriesOnly true k es) (sym (one-room m P (free m P N) (entriesOnly true k es)) ∙ (rw (ne-eqb _ _ e) at (p .1)) .0) in
+      rw (ne-eqb _ _ e, anew-prepared m P (free m P N) k es, anew-changes m P (free m P N) k es)
+      (owed-sound P N m r _ _ _ _ (clean-owed P N m r k l v (rw (fresh-anew m P (free m P N) k es) at (room .for-log)))))

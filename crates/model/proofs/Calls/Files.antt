@@ -1,25 +1,18 @@
 -- Write and set size do what they owe: their entries come to the file that POSIX says, on fresh pages, and the other inodes and the names are kept.
-use mathlib.Core.Path.{_≡_, refl, sym, _∙_, ap}
-use Prim.Native.Nat.{ℕ, _+_, _-_, _*_, _/_, _%_, _^_, _≤_, _<_, max}
-use mathlib.Core.Bool.{Bool, true, false, cond, _&&_, _||_, not}
-use mathlib.Core.List.{List, [], _∷_, map}
-use mathlib.Core.Option.{none, some}
-use native.Mathlib.Omega.{arith}
-use lib.ListN.{length}
-use lib.Dec.{leb, eqb}
-use borrow.Author.Tests.{eqb-true, leb-false, ltb-false, eq-eqb, ne-eqb, not-false}
-use Rattle.model.specs.Lists.{bit, all, has, distinct}
-use Rattle.model.specs.Words.{Mem, leFrom}
-use Rattle.model.specs.Layout.{sizesOk, validWord, headWord, tailWord, root}
+use Rattle.model.proofs.Prelude.{_≡_, refl, sym, _∙_, ℕ, _+_, _-_, _*_, _/_, _^_, _≤_, _<_, max, true, false, not, List, [], _∷_, map, none, some, arith, length, getD, length-append, length-map, List·getD-eq-default, leb, leb-false, ltb-false, eq-eqb, ne-eqb, not-false}
+use Rattle.model.specs.Lists.{bit, all, has, count, distinct}
+use Rattle.model.specs.Stretches.{stretches}
+use Rattle.model.specs.Words.{Mem}
+use Rattle.model.specs.Layout.{validWord, headWord, tailWord, root}
 use Rattle.model.specs.Journal.{targetOk}
-use Rattle.model.specs.Entry.{fileEntryOk, writeWords, sizeWords}
-use Rattle.model.specs.State.{File, fileOf, bytesOf, namesOf}
+use Rattle.model.specs.Entry.{fileEntryOk, sizeWords}
+use Rattle.model.specs.State.{fileOf, namesOf}
 use Rattle.model.specs.Log.{entries}
-use Rattle.model.specs.Accept.{isValid, isFile, mappedTo, logOk, endOk, viewOk}
+use Rattle.model.specs.Accept.{isValid, isFile, free, mappedTo, logOk, endOk, viewOk}
 use Rattle.model.specs.FileMap.{FileMap, mapOf, mapAfter, write, setSize}
-use Rattle.model.specs.Calls.{Change, Append, targets, dataStart, appended, freshPages, freshLog, noRoom, prepared, newTail, commit, noFile, pagesCovered, writtenByte, writeAppend, writeChecks, writeGroups, cutsPage, keptByte, sizeAppend, sameSize, sizeChecks, sizeGroups}
+use Rattle.model.specs.Calls.{Change, Append, stretchEntries, targets, dataPages, appended, freshPages, freshLog, noRoom, prepared, newTail, noFile, pagesCovered, writtenByte, writeAppend, cutsPage, keptByte, sizeAppend, roomChecks, actionChecks, actionGroups, writeAction, sizeAction}
 use Rattle.model.specs.Claim.{Bytes}
-use Rattle.model.proofs.Tests.{by-bool, by-eq, no, ands, or-false, within}
+use Rattle.model.proofs.Tests.{by-eq, by-lt, ands, or-false}
 use Rattle.model.proofs.Words.{leFrom-lt}
 use Rattle.model.proofs.Log.Decode.{decode}
 use Rattle.model.proofs.Frame.Placed.{sizes-whole, Placed}
@@ -27,32 +20,32 @@ use Rattle.model.proofs.Frame.Inode.{Agree, file-placed, same-names, sa
 use Rattle.model.proofs.Frame.View.{inode-fine, view-fine, file-is, inode-ok, log-ok, root-valid}
 use Rattle.model.proofs.State.Append.{Filled, fileAfter}
 use Rattle.model.proofs.State.Bytes.{small-file}
-use Rattle.model.proofs.State.Write.{written-lt, write-run, write-entries, write-end, write-bytes}
-use Rattle.model.proofs.State.Resize.{one-page, kept-lt, resize-entries, resize-end, resize-bytes}
-use Rattle.model.proofs.State.Mapped.{write-mapped, resize-mapped}
+use Rattle.model.proofs.State.Write.{written-lt, write-run, write-entries, write-mapped, write-end, write-bytes}
+use Rattle.model.proofs.State.Resize.{kept-lt, resize-run, resize-entries, resize-mapped, resize-end, resize-bytes}
+use Rattle.model.proofs.State.Stretches.{stretches-some}
 use Rattle.model.proofs.State.NamesAfter.{kept-names}
 use Rattle.model.proofs.State.NameEntries.{names-in}
 use Rattle.model.proofs.State.Maps.{SameBytes, no-bytes, same-size, write-map, size-map}
 use Rattle.model.proofs.Crash.Commit.{Ready, ready-view, committed, Owed, nothing-safe}
 use Rattle.model.proofs.Crash.History.{Duty}
-use Rattle.model.proofs.Calls.Room.{room-found, room-bounds}
+use Rattle.model.proofs.Calls.Room.{Room, free-bounds, fresh-at, room-found}
 use Rattle.model.proofs.Calls.Still.{still-prepared}
-use Rattle.model.proofs.Calls.Changed.{After}
 use Rattle.model.proofs.Calls.Stored.{Stored, valid-same, agree-after, after-by, Appends}
-use Rattle.model.proofs.Calls.Small.{Inside, SmallEntries, no-small, cons-small, write-small, size-small}
+use Rattle.model.proofs.Calls.Small.{SmallEntries, cons-small, size-small, stretches-small}
 use Rattle.model.proofs.Calls.Grown.{DeadIn, few-pages, grown-file, grown-fine, grown-filled, grown-small, grown-tail}
 use Rattle.model.proofs.Calls.Names.{target-here, target-other, target-none, target-ok}
-use Rattle.model.proofs.Calls.NameCalls.{owed-sound}
+use Rattle.model.proofs.Calls.Actions.{one-room, plain-sound}
 
 -- An append to a file's log that is not refused.
 pub record Filing (P N : ℕ) (m : Mem) (a : Append) : Type 0 where
   pub ready : Ready P N m
-  pub room : noRoom m P N a ≡ false
+  pub goes-on : a .anew ≡ false
+  pub room : noRoom m P (free m P N) a ≡ false
   pub below : a .log < N
   pub file : isFile m (a .log) ≡ true
-  pub some-es : 0 < length (appended m P N a)
+  pub some-es : 0 < length (appended m P (free m P N) a)
   pub small-words : (j : ℕ) → a .words j < 2 ^ 64
-  pub small : SmallEntries (appended m P N a)
+  pub small : SmallEntries (appended m P (free m P N) a)
 
 module _ {P N : ℕ} {m : Mem} {a : Append} (c : Filing P N m a) where
   open Filing c using (ready, below, file)
@@ -61,10 +54,10 @@ module _ {P N : ℕ} {m : Mem} {a : Append} (c : Filing P N m a) where
   k = a .log
 
   abbrev tail : Change
-  tail = newTail m P N a
+  tail = newTail m P (free m P N) a
 
   abbrev pub now : Mem
-  now = committed m (prepared m P N a) (tail ∷ [])
+  now = committed m (prepared m P (free m P N) a) (tail ∷ [])
 
   ok : viewOk m P N ≡ true
   ok = ready-view P N m ready
@@ -83,7 +76,7 @@ module _ {P N : ℕ} {m : Mem} {a : Append} (c : Filing P N m a) where
   unfolding newTail all
   in-table = rw (target-ok N (tailWord k) (omega arith) (omega (arith, below)) (omega arith))
 
-  did : Stored m P N (prepared m P N a) (tail ∷ [])
+  did : Stored m P N (prepared m P (free m P N) a) (tail ∷ [])
   did = record {
     sizes = ready .sizes;
     ok = ok;
@@ -91,10 +84,11 @@ module _ {P N : ℕ} {m : Mem} {a : Append} (c : Filing P N m a) where
     in-table = in-table;
   }
 
-  appends : Appends m P N a (prepared m P N a) (tail ∷ [])
+  appends : Appends m P N a (prepared m P (free m P N) a) (tail ∷ [])
   unfolding newTail
   appends = record {
     did = did;
+    goes-on = c .goes-on;
     below = below;
     valid = valid;
     room = room-found m P N a (c .room);
@@ -110,10 +104,10 @@ module _ {P N : ℕ} {m : Mem} {a : Append} (c : Filing P N m a) where
   file-before =
       (file-placed m P N k (log-ok m P N ok k below valid) not-root, inode-fine m P N k (inode-ok m P N ok k below) .end file)
 
-  pub filled : Filled m now P N a (dataStart m P N a)
+  pub filled : Filled m now P N a (dataPages m P (free m P N) a)
   filled = grown-filled appends not-root
 
-  pub file-now : fileOf now P N k ≡ fileAfter m P N a (dataStart m P N a)
+  pub file-now : fileOf now P N k ≡ fileAfter m P N a (dataPages m P (free m P N) a)
   file-now = grown-file appends
 
   -- the other inodes
@@ -134,11 +128,11 @@ module _ {P N : ℕ} {m : Mem} {a : Append} (c : Filing P N m a) where
       same-names m now P N 0 (log-ok m P N ok 0 g v) (agree-now 0 g (λ e. not-root (sym e)) v)
 
   -- what is owed, from the entries, the file and the map
-  pub filing-owed : (M : FileMap) → all (fileEntryOk P N) (map decode (appended m P N a)) ≡ true
-      → ((p : ℕ) → (p ≡ 0 → ⊥) → mappedTo (fileAfter m P N a (dataStart m P N a)) p
-      ≤ mappedTo (fileOf m P N k) p + bit (within (dataStart m P N a) (dataStart m P N a + a .dataPages) p))
-      → endOk now (fileAfter m P N a (dataStart m P N a)) ≡ true → mapOf now P N ≡ M
-      → Owed P N (DeadIn P N) m (prepared m P N a) (tail ∷ []) M
+  pub filing-owed : (M : FileMap) → all (fileEntryOk P N) (map decode (appended m P (free m P N) a)) ≡ true
+      → ((p : ℕ) → (p ≡ 0 → ⊥) → mappedTo (fileAfter m P N a (dataPages m P (free m P N) a)) p
+      ≤ mappedTo (fileOf m P N k) p + count p (dataPages m P (free m P N) a))
+      → endOk now (fileAfter m P N a (dataPages m P (free m P N) a)) ≡ true → mapOf now P N ≡ M
+      → Owed P N (DeadIn P N) m (prepared m P (free m P N) a) (tail ∷ []) M
   unfolding distinct has
   filing-owed M entries-ok maps ends e =
       let g = sizes-whole P N (ready .sizes) .1 in
@@ -169,100 +163,124 @@ module _ (P N : ℕ) (m : Mem) (r : Ready P N m) where
       let o = rw (ne-eqb _ _ (v .0)) at (log-ok m P N (ready-view P N m r) k l (v .1)) in
       small-file P N (entries m P N k) (search ands)
 
+  goes-on-write : (k o : ℕ) (bs : List ℕ) → writeAppend m P N k o bs .anew ≡ false
+  unfolding writeAppend
+  goes-on-write k o bs = refl
+
+  goes-on-size : (k s : ℕ) → sizeAppend m P N k s .anew ≡ false
+  unfolding sizeAppend
+  goes-on-size k s = refl
+
+  -- the data pages of an append: they are numbers of pages, and give an entry where there are any
+  module _ (a : Append) (room : Room m P N (dataPages m P (free m P N) a) (a .count) (freshLog m P (free m P N) a) (freshPages m P (free m P N) a)) where
+    data-small : (i : ℕ) → getD (dataPages m P (free m P N) a) i 0 ≤ 4096
+    data-small i =
+        let n = room .for-data .number in
+        let few = few-pages P N (r .sizes) .0 in
+        by-lt i (a .count)
+        (λ l. let b = free-bounds m P N _ (fresh-at m P N _ _ (room .for-data) i l) in omega arith)
+        (λ l. rw (List·getD-eq-default (dataPages m P (free m P N) a) 0 {n = i} (omega arith)) (omega arith))
+
+    some-stretch : 1 ≤ a .count → 0 < length (appended m P (free m P N) a)
+    unfolding appended stretchEntries
+    some-stretch l =
+        let f : ℕ → ℕ = λ i. getD (dataPages m P (free m P N) a) (i - a .file) 0 in
+        let b = free-bounds m P N _ (fresh-at m P N _ _ (room .for-data) 0 (omega arith)) in
+        let e : a .file - a .file ≡ 0 = omega arith in
+        let n = stretches-some f (a .count) (a .file) l (λ q. let z = rw e at q in omega arith) in
+        rw (length-append, length-map) (omega (arith, n))
+
   -- Write.
   module _ (k o : ℕ) (bs : List ℕ) (small : Bytes bs) (below : k < N) (file : isFile m k ≡ true) (short : length bs ≤ 4096)
-      (in-file : o + length bs ≤ 65536) (some-bytes : length bs ≡ 0 → ⊥) (room : noRoom m P N (writeAppend m P N k o bs) ≡ false) where
+      (in-file : o + length bs ≤ 65536) (some-bytes : length bs ≡ 0 → ⊥) (room : noRoom m P (free m P N) (writeAppend m P N k o bs) ≡ false) where
     abbrev w : Append
     w = writeAppend m P N k o bs
+
+    abbrev ds : List ℕ
+    ds = dataPages m P (free m P N) w
 
     write-call : Filing P N m w
     unfolding writeAppend appended
     write-call =
         let size = small-was k below file in
-        let pages = few-pages P N (r .sizes) .0 in
         let run = write-run m P N k o bs (omega arith) short in-file in
-        let b = room-bounds m P N (dataStart m P N w) (w .dataPages) (freshLog m P N w) (freshPages m P N w) (room-found m P N w room) (run .0) in
+        let room-is = room-found m P N w room in
+        let pages = data-small w room-is in
         record {
           ready = r;
+          goes-on = refl;
           room = room;
           below = below;
           file = file;
-          some-es = omega arith;
+          some-es = some-stretch w room-is (run .0);
           small-words = λ j. leFrom-lt 8 (writtenByte m P N k o bs) (512 * (o / 512) + 8 * j) (written-lt m P N k o bs small);
-          small = cons-small _ [] (write-small (o / 512) (dataStart m P N w) (pagesCovered o (o + length bs)) (max (fileOf m P N k .size) (o + length bs))
-              (omega arith) (omega arith) (omega arith) (omega arith)) no-small;
+          small = stretches-small (max (fileOf m P N k .size) (o + length bs)) (omega arith) (λ i. getD ds (i - o / 512) 0) (λ i. pages (i - o / 512))
+              (pagesCovered o (o + length bs)) (o / 512) (run .2);
         }
 
-    write-owed : Owed P N (DeadIn P N) m (prepared m P N w) (newTail m P N w ∷ []) (mapAfter N (write k o bs) (mapOf m P N))
+    write-owed : Owed P N (DeadIn P N) m (prepared m P (free m P N) w) (newTail m P (free m P N) w ∷ []) (mapAfter N (write k o bs) (mapOf m P N))
     unfolding writeAppend appended
     write-owed =
         let some : 0 < length bs = omega arith in
         let before = file-before write-call in
-        let d = dataStart m P N w in
         let f = filled write-call in
-        filing-owed write-call _ (write-entries m P N k o bs some (now write-call) d f short in-file (small-was k below file))
-        (λ p z. write-mapped m P N k o bs d p)
-        (write-end m P N k o bs some (now write-call) d f (before .0) (before .1) small)
+        filing-owed write-call _ (write-entries m P N k o bs some (now write-call) ds f short in-file (small-was k below file))
+        (λ p z. write-mapped m P N k o bs some (now write-call) ds f p)
+        (write-end m P N k o bs some (now write-call) ds f (before .0) (before .1) small)
         (write-map m _ P N (valid-now write-call) (names-now write-call) k below file (bytes-now write-call) o bs some-bytes
-        (rw (file-now write-call) (write-bytes m P N k o bs some (now write-call) d f (before .0) (before .1) small)))
+        (rw (file-now write-call) (write-bytes m P N k o bs some (now write-call) ds f (before .0) (before .1) small)))
 
-  pub write-done : (k o : ℕ) (bs : List ℕ) → Duty P N m (write k o bs) (writeChecks m P N k o bs) (writeGroups m P N k o bs)
-  unfolding writeChecks writeGroups
+  pub write-done : (k o : ℕ) (bs : List ℕ) → Duty P N m (write k o bs) (writeAction m P N k o bs)
+  unfolding actionChecks actionGroups roomChecks writeAction
   write-done k o bs bytes p =
       let f = file-of k (p .0) in
       by-eq (length bs) 0
       (λ e. rw (eq-eqb _ _ e) (nothing-safe P N m _ r (sym (no-bytes N k o bs (mapOf m P N) e))))
-      (λ e. rw (ne-eqb _ _ e) (owed-sound P N m r _ _ [] _
-      (write-owed k o bs bytes (f .0) (f .1) (ltb-false _ _ (p .1 .0)) (ltb-false _ _ (p .1 .1 .0)) e (rw (ne-eqb _ _ e) at (p .1 .1 .1 .0)))))
+      (λ e. rw (ne-eqb _ _ e) (plain-sound P N m r (writeAppend m P N k o bs) (goes-on-write k o bs) [] _
+      (write-owed k o bs bytes (f .0) (f .1) (ltb-false _ _ (p .1 .0)) (ltb-false _ _ (p .1 .1 .0)) e
+      (sym (one-room m P (free m P N) _) ∙ (rw (ne-eqb _ _ e) at (p .1 .1 .1)) .0))))
 
   -- Set size.
-  module _ (k s : ℕ) (below : k < N) (file : isFile m k ≡ true) (in-file : s ≤ 65536) (room : noRoom m P N (sizeAppend m P N k s) ≡ false) where
+  module _ (k s : ℕ) (below : k < N) (file : isFile m k ≡ true) (in-file : s ≤ 65536) (room : noRoom m P (free m P N) (sizeAppend m P N k s) ≡ false) where
     abbrev z : Append
     z = sizeAppend m P N k s
 
-    size-entries-small : (d : ℕ) → (cutsPage m P N k s ≡ true → d < 2 ^ 64) → SmallEntries (z .entriesAt d)
-    unfolding sizeAppend
-    size-entries-small d l =
-        cons-small (sizeWords s) (cond (cutsPage m P N k s) (writeWords (s / 512) d 1 s ∷ []) []) (size-small s (omega arith))
-        (by-bool (cutsPage m P N k s)
-        (λ t. rw t (cons-small (writeWords (s / 512) d 1 s) [] (write-small (s / 512) d 1 s (omega arith) (l t) (omega arith) (omega arith)) no-small))
-        (λ t. rw t no-small))
-
-    size-start-small : cutsPage m P N k s ≡ true → dataStart m P N z < 2 ^ 64
-    size-start-small t =
-        let pages = few-pages P N (r .sizes) .0 in
-        let b = room-bounds m P N (dataStart m P N z) (z .dataPages) (freshLog m P N z) (freshPages m P N z) (room-found m P N z room) (one-page m P N k s t) in
-        omega arith
+    abbrev copied : List ℕ
+    copied = dataPages m P (free m P N) z
 
     size-call : Filing P N m z
     unfolding sizeAppend appended
-    size-call = record {
-      ready = r;
-      room = room;
-      below = below;
-      file = file;
-      some-es = omega arith;
-      small-words = λ j. leFrom-lt 8 (keptByte m P N k s) (512 * (s / 512) + 8 * j) (kept-lt m P N k s);
-      small = size-entries-small (dataStart m P N z) size-start-small;
-    }
+    size-call =
+        let pages = data-small z (room-found m P N z room) in
+        record {
+          ready = r;
+          goes-on = refl;
+          room = room;
+          below = below;
+          file = file;
+          some-es = omega arith;
+          small-words = λ j. leFrom-lt 8 (keptByte m P N k s) (512 * (s / 512) + 8 * j) (kept-lt m P N k s);
+          small = cons-small (sizeWords s) (stretchEntries s (stretches (λ i. getD copied (i - s / 512) 0) (bit (cutsPage m P N k s)) (s / 512)))
+              (size-small s (omega arith)) (stretches-small s (omega arith) (λ i. getD copied (i - s / 512) 0) (λ i. pages (i - s / 512))
+              (bit (cutsPage m P N k s)) (s / 512) (resize-run m P N k s in-file (small-was k below file)));
+        }
 
-    size-owed : Owed P N (DeadIn P N) m (prepared m P N z) (newTail m P N z ∷ []) (mapAfter N (setSize k s) (mapOf m P N))
+    size-owed : Owed P N (DeadIn P N) m (prepared m P (free m P N) z) (newTail m P (free m P N) z ∷ []) (mapAfter N (setSize k s) (mapOf m P N))
     unfolding sizeAppend appended
     size-owed =
         let before = file-before size-call in
-        let d = dataStart m P N z in
         let f = filled size-call in
-        filing-owed size-call _ (resize-entries m P N k s (now size-call) d f in-file (small-was k below file))
-        (λ p n. resize-mapped m P N k s d p n)
-        (resize-end m P N k s (now size-call) d f (before .0) (before .1))
+        filing-owed size-call _ (resize-entries m P N k s (now size-call) copied f in-file (small-was k below file))
+        (λ p n. resize-mapped m P N k s (now size-call) copied f p n)
+        (resize-end m P N k s (now size-call) copied f (before .0) (before .1))
         (size-map m _ P N (valid-now size-call) (names-now size-call) k below file (bytes-now size-call) s
-        (rw (file-now size-call) (resize-bytes m P N k s (now size-call) d f (before .0) (before .1))))
+        (rw (file-now size-call) (resize-bytes m P N k s (now size-call) copied f (before .0) (before .1))))
 
-  pub size-done : (k s : ℕ) → Duty P N m (setSize k s) (sizeChecks m P N k s) (sizeGroups m P N k s)
-  unfolding sizeChecks sizeGroups sameSize
+  pub size-done : (k s : ℕ) → Duty P N m (setSize k s) (sizeAction m P N k s)
+  unfolding actionChecks actionGroups roomChecks sizeAction
   size-done k s bytes p =
       let f = file-of k (p .0) in
       by-eq s (fileOf m P N k .size)
       (λ e. rw (eq-eqb _ _ e) (nothing-safe P N m _ r (sym (same-size m P N k s (f .0) (f .1) e))))
-      (λ e. rw (ne-eqb _ _ e) (owed-sound P N m r _ _ [] _
-      (size-owed k s (f .0) (f .1) (ltb-false _ _ (p .1 .0)) (rw (ne-eqb _ _ e) at (p .1 .1 .0)))))
+      (λ e. rw (ne-eqb _ _ e) (plain-sound P N m r (sizeAppend m P N k s) (goes-on-size k s) [] _
+      (size-owed k s (f .0) (f .1) (ltb-false _ _ (p .1 .0)) (sym (one-room m P (free m P N) _) ∙ (rw (ne-eqb _ _ e) at (p .1 .1)) .0))))

@@ -1,40 +1,27 @@
 -- An append, whoever makes it: the view after it is fine if its entries are ones that its log may hold and the file or the names they come to are
 -- fine, and all that it stores lies inside the volume.
-use mathlib.Core.Path.{_≡_, refl, sym, _∙_}
-use Prim.Native.Nat.{ℕ, _+_, _*_, _/_, _^_, _≤_, _<_}
-use mathlib.Core.Bool.{Bool, true, false, cond}
-use mathlib.Core.List.{List, [], _∷_, _++_, map}
-use mathlib.Core.Option.{none, some}
-use native.Mathlib.Omega.{arith}
-use native.Mathlib.Nat.{le-of-eq}
-use lib.ListN.{length, getD}
-use lib.Dec.{eqb}
-use borrow.Author.Tests.{eqb-true, leb-true}
-use Rattle.model.specs.Lists.{bit, all, foldl}
+use Rattle.model.proofs.Prelude.{_≡_, ℕ, _+_, _/_, _^_, _≤_, _<_, Bool, true, cond, List, _++_, map, arith, le-of-eq, getD, eqb, leb-true}
+use Rattle.model.specs.Lists.{all, foldl, count}
 use Rattle.model.specs.Words.{Mem}
-use Rattle.model.specs.Layout.{sizesOk, inPages, headWord, tailWord, root, isDirectory}
-use Rattle.model.specs.Journal.{targetOk}
+use Rattle.model.specs.Layout.{sizesOk, headWord, tailWord, root, isDirectory}
 use Rattle.model.specs.Entry.{fileEntryOk, nameEntryOk}
 use Rattle.model.specs.Log.{tailSlots}
 use Rattle.model.specs.State.{fileOf, nameStep, namesOf}
-use Rattle.model.specs.Accept.{isValid, mappedTo, namesOk, endOk, viewOk}
-use Rattle.model.specs.FileMap.{FileMap, mapOf}
+use Rattle.model.specs.Accept.{free, mappedTo, namesOk, endOk, viewOk}
 use Rattle.model.specs.Stores.{Stores}
-use Rattle.model.specs.Calls.{Change, Append, tailPages, targets, dataStart, appended, freshPages, freshLog, prepared, newTail}
-use Rattle.model.proofs.Tests.{ands, within}
-use Rattle.model.proofs.Lists.{all-append, all-by, all-has}
+use Rattle.model.specs.Calls.{Change, Append, tailPages, dataPages, appended, freshPages, freshLog, prepared, newTail}
+use Rattle.model.proofs.Tests.{ands}
 use Rattle.model.proofs.Log.Decode.{decode}
 use Rattle.model.proofs.Log.Append.{tail-inside, file-after, names-after, count-after, ok-after}
-use Rattle.model.proofs.Frame.Placed.{sizes-whole, in-bounds}
+use Rattle.model.proofs.Frame.Placed.{sizes-whole}
 use Rattle.model.proofs.Frame.View.{log-ok}
 use Rattle.model.proofs.Frame.Dead.{Dead}
 use Rattle.model.proofs.State.Append.{Filled, fileAfter}
-use Rattle.model.proofs.Crash.Stores.{Each, only-both, only-if, only-word, only-run}
-use Rattle.model.proofs.Crash.Journal.{targetsOf}
-use Rattle.model.proofs.Crash.Commit.{committed, Owed}
-use Rattle.model.proofs.Calls.Room.{Room, room-bounds, free-in, room-lone}
+use Rattle.model.proofs.Crash.Stores.{Each, only-both, only-if, only-word}
+use Rattle.model.proofs.Crash.Commit.{committed}
+use Rattle.model.proofs.Calls.Room.{free-bounds, fresh-at, room-lone, pages-in, pages-value}
 use Rattle.model.proofs.Calls.Changed.{After, changed-fine}
-use Rattle.model.proofs.Calls.Stored.{Stored, file-words, Appends, fits, reads-after, run-stored, valid-after}
+use Rattle.model.proofs.Calls.Stored.{Stored, file-words, Appends, fits, reads-after, data-stored, valid-after, prepared-on, tail-on}
 use Rattle.model.proofs.Calls.Small.{Inside, SmallEntries, page-small, tail-small, lay-small}
 
 pub few-pages : (P N : ℕ) → sizesOk P N ≡ true → (P ≤ 4096) × (N ≤ 256) × (N / 8 + 4 ≤ P)
@@ -49,21 +36,26 @@ module _ {m : Mem} {P N : ℕ} {a : Append} {s : Stores} {cs : List Change} (c :
   open Appends c using (did, room, below, valid)
   open Stored (c .did) using (sizes, ok)
 
+  abbrev f : ℕ → Bool
+  f = free m P N
+
+  abbrev ds : List ℕ
+  ds = dataPages m P f a
+
   abbrev now : Mem
   now = committed m s cs
 
   -- the file and the names that the longer log means
-  pub grown-file : fileOf now P N (a .log) ≡ fileAfter m P N a (dataStart m P N a)
+  pub grown-file : fileOf now P N (a .log) ≡ fileAfter m P N a ds
   unfolding appended
   grown-file = file-after (fits c) now (reads-after c)
 
-  pub grown-names : namesOf now P N (a .log) ≡ foldl nameStep (namesOf m P N (a .log)) (map decode (appended m P N a))
+  pub grown-names : namesOf now P N (a .log) ≡ foldl nameStep (namesOf m P N (a .log)) (map decode (appended m P f a))
   grown-names = names-after (fits c) now (reads-after c)
 
   -- the view after it
-  pub grown-fine : cond (isDirectory (a .log)) (all (nameEntryOk N) (map decode (appended m P N a))) (all (fileEntryOk P N) (map decode (appended m P N a))) ≡ true
-      → ((a .log ≡ 0 → ⊥) → (p : ℕ) → (p ≡ 0 → ⊥)
-      → mappedTo (fileOf now P N (a .log)) p ≤ mappedTo (fileOf m P N (a .log)) p + bit (within (dataStart m P N a) (dataStart m P N a + a .dataPages) p))
+  pub grown-fine : cond (isDirectory m (a .log)) (all (nameEntryOk N) (map decode (appended m P f a))) (all (fileEntryOk P N) (map decode (appended m P f a))) ≡ true
+      → ((a .log ≡ 0 → ⊥) → (p : ℕ) → (p ≡ 0 → ⊥) → mappedTo (fileOf now P N (a .log)) p ≤ mappedTo (fileOf m P N (a .log)) p + count p ds)
       → ((a .log ≡ 0 → ⊥) → endOk now (fileOf now P N (a .log)) ≡ true)
       → ((i : ℕ) → i < N → (i ≡ a .log → ⊥) → After m now P N i)
       → namesOk now N (namesOf now P N root) ≡ true → viewOk now P N ≡ true
@@ -74,7 +66,7 @@ module _ {m : Mem} {P N : ℕ} {a : Append} {s : Stores} {cs : List Change} (c :
         is-valid = valid-after c;
         log-fine = ok-after (fits c) now (reads-after c) (log-ok m P N ok (a .log) below valid) entries-ok;
         longer = λ p. le-of-eq (count-after (fits c) now (reads-after c) p);
-        lone = room-lone m P N (dataStart m P N a) (a .dataPages) (freshLog m P N a) (freshPages m P N a) room;
+        lone = room-lone m P N ds (a .count) (freshLog m P f a) (freshPages m P f a) room;
         maps = maps;
         ends = ends;
         others = others;
@@ -82,28 +74,30 @@ module _ {m : Mem} {P N : ℕ} {a : Append} {s : Stores} {cs : List Change} (c :
       })
 
   -- what stands in it for a file
-  pub grown-filled : (a .log ≡ 0 → ⊥) → Filled m now P N a (dataStart m P N a)
+  pub grown-filled : (a .log ≡ 0 → ⊥) → Filled m now P N a ds
   grown-filled n = record {
-    above = λ l. room-bounds m P N (dataStart m P N a) (a .dataPages) (freshLog m P N a) (freshPages m P N a) room l .0;
-    below = λ l. room-bounds m P N (dataStart m P N a) (a .dataPages) (freshLog m P N a) (freshPages m P N a) room l .1;
-    stored = run-stored c;
+    number = room .for-data .number;
+    places = λ j l. free-bounds m P N (getD ds j 0) (fresh-at m P N ds (a .count) (room .for-data) j l);
+    stored = data-stored c;
     kept = file-words did (a .log) below valid n;
   }
 
   -- what it stores is small
-  pub grown-small : ((j : ℕ) → a .words j < 2 ^ 64) → SmallEntries (appended m P N a) → Each (Inside P) (prepared m P N a)
-  unfolding prepared
+  pub grown-small : ((j : ℕ) → a .words j < 2 ^ 64) → SmallEntries (appended m P f a) → Each (Inside P) (prepared m P f a)
   grown-small w e =
       let b = few-pages P N sizes in
-      let d = dataStart m P N a in
-      let p = page-small P N (b .0) (freshLog m P N a) (fits c .inside) 0 in
-      only-both
-      (only-run (Inside P) (64 * d) (64 * a .dataPages) (a .words)
-      (λ j l. let q = room-bounds m P N d (a .dataPages) (freshLog m P N a) (freshPages m P N a) room (omega arith) in (omega arith, w j)))
-      (only-both (lay-small P N (b .0) (tailPages m (a .log) ++ freshLog m P N a) (tail-inside (fits c)) (tailSlots m (a .log)) (appended m P N a) e)
-      (only-if (eqb (m (tailWord (a .log))) 0)
-      (λ t. only-word (Inside P) (headWord (a .log)) (getD (freshLog m P N a) 0 0) (omega (arith, below, sizes-whole P N sizes .0), omega arith))))
+      let ls = freshLog m P f a in
+      let p = page-small P N (b .0) ls (fits c .inside) 0 in
+      rw (prepared-on m P f a (c .goes-on))
+      (only-both (lay-small P N (b .0) (tailPages m (a .log) ++ ls) (tail-inside (fits c)) (tailSlots m (a .log)) (appended m P f a) e)
+      (only-both (only-if (eqb (m (tailWord (a .log))) 0)
+      (λ t. only-word (Inside P) (headWord (a .log)) (getD ls 0 0) (omega (arith, below, sizes-whole P N sizes .0), omega arith)))
+      (λ i x h.
+      let q = free-bounds m P N (i / 64) (room .for-data .unused (i / 64) (pages-in ds (a .words) i x h)) in
+      let y = pages-value ds (a .words) i x h in
+      (omega arith, rw (y .1) (w (y .0))))))
 
-  pub grown-tail : newTail m P N a .1 < 2 ^ 64
-  unfolding newTail
-  grown-tail = tail-small P N (few-pages P N sizes .0) (tailPages m (a .log) ++ freshLog m P N a) (tail-inside (fits c)) (tailSlots m (a .log)) _
+  pub grown-tail : newTail m P f a .1 < 2 ^ 64
+  grown-tail =
+      rw (tail-on m P f a (c .goes-on))
+      (tail-small P N (few-pages P N sizes .0) (tailPages m (a .log) ++ freshLog m P f a) (tail-inside (fits c)) (tailSlots m (a .log)) _)

@@ -1,48 +1,33 @@
 -- Create, link, unlink and rename do what they owe: their entries add or take out names, and the valid words follow the names.
-use mathlib.Core.Path.{_≡_, refl, sym, _∙_, ap}
-use Prim.Native.Nat.{ℕ, _+_, _*_, _/_, _%_, _^_, _≤_, _<_}
-use mathlib.Core.Bool.{Bool, true, false, cond, _&&_, not}
-use mathlib.Core.List.{List, [], _∷_, map}
-use mathlib.Core.Option.{Option, none, some}
-use native.Mathlib.Omega.{arith}
-use lib.ListN.{length}
-use lib.Dec.{eqb}
-use borrow.Author.Tests.{eqb-true, eqb-false, leb-false, eq-eqb, ne-eqb, not-false, not-true}
-use Rattle.model.specs.Lists.{isSome, orElse}
+use Rattle.model.proofs.Prelude.{_≡_, refl, sym, _∙_, ℕ, _≤_, _<_, Bool, true, false, _&&_, List, [], _∷_, none, some, arith, length, eqb, eqb-true, eqb-false, leb-false, eq-eqb, ne-eqb, not-false, not-true}
 use Rattle.model.specs.Words.{Mem}
-use Rattle.model.specs.Layout.{sizesOk, validWord, headWord, tailWord, root}
+use Rattle.model.specs.Layout.{validWord, headWord, tailWord, root}
 use Rattle.model.specs.Entry.{nameOk, addWords, removeWords}
 use Rattle.model.specs.State.{Names, namesOf, withName, without, inodeOf}
-use Rattle.model.specs.Accept.{isValid, isFile, viewOk}
-use Rattle.model.specs.FileMap.{FileMap, mapOf, mapAfter, create, link, unlink, rename}
-use Rattle.model.specs.Stores.{Stores, oneWord, both, over}
-use Rattle.model.specs.Calls.{Change, entriesOnly, targets, noRoom, prepared, newTail, commit, isFull, invalidInode, release, sameInode, createAppend, createChecks, createGroups, linkAppend, linkChecks, linkGroups, unlinkAppend, unlinkChecks, unlinkGroups, renameAppend, renameChecks, renameGroups}
+use Rattle.model.specs.Accept.{isValid, isFile, free, viewOk}
+use Rattle.model.specs.FileMap.{mapOf, mapAfter, create, link, unlink, rename}
+use Rattle.model.specs.Stores.{Stores, oneWord, both}
+use Rattle.model.specs.Calls.{Change, entriesOnly, targets, noRoom, prepared, newTail, isFull, invalidInode, release, sameInode, roomChecks, actionChecks, actionGroups, createAction, linkAction, unlinkAction, renameAction}
 use Rattle.model.specs.Claim.{Bytes}
 use Rattle.model.proofs.Tests.{by-bool, by-eq, no, clash, ands, some-is}
 use Rattle.model.proofs.Log.Decode.{name-short}
 use Rattle.model.proofs.Frame.Placed.{sizes-whole}
 use Rattle.model.proofs.Frame.View.{file-is, log-ok, root-valid}
-use Rattle.model.proofs.Frame.Dead.{Dead, low, frame}
 use Rattle.model.proofs.State.NamesFine.{NamesIn, leads}
 use Rattle.model.proofs.State.NamesAfter.{lastName, release-is, release-valid, Released, Taken, create-names, link-names, unlink-names, rename-names}
 use Rattle.model.proofs.State.NameEntries.{names-in, names-added, added-ok, names-removed, removed-ok, names-moved, moved-ok}
 use Rattle.model.proofs.State.Maps.{SameBytes, rename-same, create-inode, create-map, link-map, unlink-map, rename-map}
-use Rattle.model.proofs.Crash.Stores.{Only, Each, only-both, only-word, over-some, one-here, one-other}
-use Rattle.model.proofs.Crash.Commit.{Ready, ready-view, committed, Owed, Sound, commit-safe, nothing-safe}
+use Rattle.model.proofs.Crash.Stores.{only-both, only-word, over-some, one-here, one-other}
+use Rattle.model.proofs.Crash.Commit.{Ready, ready-view, Owed, nothing-safe}
 use Rattle.model.proofs.Crash.History.{Duty}
 use Rattle.model.proofs.Calls.Room.{room-found}
-use Rattle.model.proofs.Calls.Still.{Still, still-inode, still-prepared}
+use Rattle.model.proofs.Calls.Actions.{one-room, append-sound, plain-sound}
+use Rattle.model.proofs.Calls.Still.{still-inode, still-prepared}
 use Rattle.model.proofs.Calls.Changed.{After, gone, made, new-file}
-use Rattle.model.proofs.Calls.Stored.{not-committed, prepared-low}
+use Rattle.model.proofs.Calls.Stored.{prepared-low}
 use Rattle.model.proofs.Calls.Small.{Inside, SmallEntries, no-small, cons-small, add-small, remove-small}
 use Rattle.model.proofs.Calls.Grown.{DeadIn, few-pages}
-use Rattle.model.proofs.Calls.Names.{target-here, target-other, target-none, Valid, no-change, one-change, Naming, appends, now, word-now, names-now, valid-now, valid-set, after-now, bytes-now, naming-owed, names-before, names-fine-before}
-
--- what is owed is enough
-module _ (P N : ℕ) (m : Mem) (r : Ready P N m) where
-  pub owed-sound : (s : Stores) (c : Change) (cs : List Change) (M : FileMap) → Owed P N (DeadIn P N) m s (c ∷ cs) M → Sound P N m (commit m s c cs) M
-  owed-sound =
-      commit-safe P N (DeadIn P N) (λ u u′ o d. let f = frame P N (r .sizes) u u′ o d in (f .0, f .1)) (λ u w h. low h) m r
+use Rattle.model.proofs.Calls.Names.{target-here, target-other, target-none, Valid, no-change, one-change, Naming, appends, now, word-now, names-now, valid-now, valid-set, after-now, bytes-now, naming-owed, names-fine-before}
 
 module _ (P N : ℕ) (m : Mem) (r : Ready P N m) where
   ok : viewOk m P N ≡ true
@@ -58,28 +43,27 @@ module _ (P N : ℕ) (m : Mem) (r : Ready P N m) where
   in-names = names-in m P N root refl (log-ok m P N ok 0 some-inode (root-valid m P N ok some-inode))
 
   -- a call that appends to the directory and stores nothing else first
-  plain : (es : List (List ℕ)) (cs : List Change) → noRoom m P N (entriesOnly root es) ≡ false → 0 < length es → SmallEntries es → Valid N cs
-      → Naming P N m es (prepared m P N (entriesOnly root es)) cs
+  plain : (es : List (List ℕ)) (cs : List Change) → noRoom m P (free m P N) (entriesOnly false root es) ≡ false → 0 < length es → SmallEntries es → Valid N cs
+      → Naming P N m es (prepared m P (free m P N) (entriesOnly false root es)) cs
   unfolding entriesOnly
   plain es cs room some-es small valids = record {
     ready = r;
     room = room;
     some-es = some-es;
     small = small;
-    still = still-prepared m P N ok (entriesOnly root es) some-inode (root-valid m P N ok some-inode) (room-found m P N (entriesOnly root es) room);
+    still = still-prepared m P N ok (entriesOnly false root es) some-inode (root-valid m P N ok some-inode) (room-found m P N (entriesOnly false root es) room);
     inside = λ e. e;
     stores = λ w x e. e;
     valids = valids;
   }
 
   -- Link.
-  module _ (a b : List ℕ) (small : Bytes b) (room : noRoom m P N (linkAppend m P N root a b) ≡ false) (fine : nameOk b ≡ true)
+  module _ (a b : List ℕ) (small : Bytes b) (room : noRoom m P (free m P N) (entriesOnly false root (addWords (inodeOf names a) b ∷ [])) ≡ false) (fine : nameOk b ≡ true)
       (there : inodeOf names a ≡ 0 → ⊥) (absent : inodeOf names b ≡ 0) (short : length names < 224) where
     inode : (1 ≤ inodeOf names a) × (inodeOf names a < N)
     inode = leads N names in-names a there
 
-    link-call : Naming P N m (addWords (inodeOf names a) b ∷ []) (prepared m P N (linkAppend m P N root a b)) []
-    unfolding linkAppend
+    link-call : Naming P N m (addWords (inodeOf names a) b ∷ []) (prepared m P (free m P N) (entriesOnly false root (addWords (inodeOf names a) b ∷ []))) []
     link-call =
         plain (addWords (inodeOf names a) b ∷ []) [] room (omega arith)
         (cons-small _ [] (add-small (inodeOf names a) b (omega (arith, inode .1, few-pages P N (r .sizes) .1)) (name-short b fine) small) no-small) no-change
@@ -90,21 +74,20 @@ module _ (P N : ℕ) (m : Mem) (r : Ready P N m) where
     link-names-now : namesOf (now link-call) P N root ≡ withName b (inodeOf names a) names
     link-names-now = names-now link-call ∙ names-added b fine small (inodeOf names a) names
 
-    link-owed : Owed P N (DeadIn P N) m (prepared m P N (linkAppend m P N root a b)) (newTail m P N (linkAppend m P N root a b) ∷ [])
+    link-owed : Owed P N (DeadIn P N) m (prepared m P (free m P N) (entriesOnly false root (addWords (inodeOf names a) b ∷ []))) (newTail m P (free m P N) (entriesOnly false root (addWords (inodeOf names a) b ∷ [])) ∷ [])
         (mapAfter N (link a b) (mapOf m P N))
-    unfolding linkAppend
     link-owed =
         naming-owed link-call _ (added-ok b fine small N (inodeOf names a) (inode .0) (inode .1))
         (λ i l n. after-now link-call i l n (target-none (validWord i)))
         (rw link-names-now (link-names m _ N names in-names (names-fine-before link-call) a b there absent short link-valid))
         (link-map m _ P N link-valid a b link-names-now (λ k l f. bytes-now link-call k l f (target-none (validWord k))))
 
-  pub link-done : (a b : List ℕ) → Duty P N m (link a b) (linkChecks m P N root a b) (linkGroups m P N root a b)
-  unfolding linkChecks linkGroups isFull
+  pub link-done : (a b : List ℕ) → Duty P N m (link a b) (linkAction m P N root a b)
+  unfolding actionChecks actionGroups roomChecks linkAction isFull entriesOnly mapAfter
   link-done a b bytes p =
       let h : nameOk a && nameOk b ≡ true = not-false _ (p .0) in
-      owed-sound P N m r _ _ [] _
-      (link-owed a b (bytes .1) (p .1 .1 .1 .1 .0) (search ands) (eqb-false _ _ (not-true _ (not-false _ (p .1 .0))))
+      plain-sound P N m r _ refl [] _
+      (link-owed a b (bytes .1) (sym (one-room m P (free m P N) _) ∙ p .1 .1 .1 .1 .0) (search ands) (eqb-false _ _ (not-true _ (not-false _ (p .1 .0))))
       (eqb-true _ _ (not-false _ (p .1 .1 .0))) (leb-false _ _ (p .1 .1 .1 .0)))
 
   -- A call that may let go of the file that name n leads to.
@@ -119,7 +102,7 @@ module _ (P N : ℕ) (m : Mem) (r : Ready P N m) where
       rw t (one-change j 0 (b .0) (b .1) (omega arith)))
       (λ t. rw t no-change))
 
-  module _ (n : List ℕ) {es : List (List ℕ)} (c : Naming P N m es (prepared m P N (entriesOnly root es)) (release m P N root n)) where
+  module _ (n : List ℕ) {es : List (List ℕ)} (c : Naming P N m es (prepared m P (free m P N) (entriesOnly false root es)) (release m P N root n)) where
     abbrev goes : ℕ → Bool
     goes k = eqb k (inodeOf names n) && lastName names (inodeOf names n)
 
@@ -141,36 +124,33 @@ module _ (P N : ℕ) (m : Mem) (r : Ready P N m) where
         (λ t. bytes-now c k l (rw (valid-now c k l (stays-now k t)) at f) (stays-now k t))
 
   -- Unlink.
-  module _ (n : List ℕ) (small : Bytes n) (room : noRoom m P N (unlinkAppend m P N root n) ≡ false) (fine : nameOk n ≡ true) where
-    unlink-call : Naming P N m (removeWords n ∷ []) (prepared m P N (unlinkAppend m P N root n)) (release m P N root n)
-    unfolding unlinkAppend
+  module _ (n : List ℕ) (small : Bytes n) (room : noRoom m P (free m P N) (entriesOnly false root (removeWords n ∷ [])) ≡ false) (fine : nameOk n ≡ true) where
+    unlink-call : Naming P N m (removeWords n ∷ []) (prepared m P (free m P N) (entriesOnly false root (removeWords n ∷ []))) (release m P N root n)
     unlink-call =
         plain (removeWords n ∷ []) (release m P N root n) room (omega arith) (cons-small _ [] (remove-small n (name-short n fine) small) no-small) (release-one n)
 
     unlink-names-now : namesOf (now unlink-call) P N root ≡ without n names
     unlink-names-now = names-now unlink-call ∙ names-removed n fine small names
 
-    unlink-owed : Owed P N (DeadIn P N) m (prepared m P N (unlinkAppend m P N root n)) (newTail m P N (unlinkAppend m P N root n) ∷ release m P N root n)
+    unlink-owed : Owed P N (DeadIn P N) m (prepared m P (free m P N) (entriesOnly false root (removeWords n ∷ []))) (newTail m P (free m P N) (entriesOnly false root (removeWords n ∷ [])) ∷ release m P N root n)
         (mapAfter N (unlink n) (mapOf m P N))
-    unfolding unlinkAppend
     unlink-owed =
         naming-owed unlink-call _ (removed-ok n fine small N) (released-after n unlink-call)
         (rw unlink-names-now (unlink-names m _ N names in-names (names-fine-before unlink-call) n (released n unlink-call)))
         (unlink-map m _ P N in-names n unlink-names-now (released n unlink-call) (released-bytes n unlink-call))
 
-  pub unlink-done : (n : List ℕ) → Duty P N m (unlink n) (unlinkChecks m P N root n) (unlinkGroups m P N root n)
-  unfolding unlinkChecks unlinkGroups
+  pub unlink-done : (n : List ℕ) → Duty P N m (unlink n) (unlinkAction m P N root n)
+  unfolding actionChecks actionGroups roomChecks unlinkAction entriesOnly mapAfter
   unlink-done n bytes p =
-      owed-sound P N m r _ _ (release m P N root n) _ (unlink-owed n bytes (p .1 .1 .0) (not-false _ (p .0)))
+      plain-sound P N m r _ refl (release m P N root n) _ (unlink-owed n bytes (sym (one-room m P (free m P N) _) ∙ p .1 .1 .0) (not-false _ (p .0)))
 
   -- Rename.
-  module _ (a b : List ℕ) (small-a : Bytes a) (small-b : Bytes b) (room : noRoom m P N (renameAppend m P N root a b) ≡ false)
+  module _ (a b : List ℕ) (small-a : Bytes a) (small-b : Bytes b) (room : noRoom m P (free m P N) (entriesOnly false root (removeWords a ∷ addWords (inodeOf names a) b ∷ [])) ≡ false)
       (fine-a : nameOk a ≡ true) (fine-b : nameOk b ≡ true) (there : inodeOf names a ≡ 0 → ⊥) (apart : inodeOf names a ≡ inodeOf names b → ⊥) where
     moved : (1 ≤ inodeOf names a) × (inodeOf names a < N)
     moved = leads N names in-names a there
 
-    rename-call : Naming P N m (removeWords a ∷ addWords (inodeOf names a) b ∷ []) (prepared m P N (renameAppend m P N root a b)) (release m P N root b)
-    unfolding renameAppend
+    rename-call : Naming P N m (removeWords a ∷ addWords (inodeOf names a) b ∷ []) (prepared m P (free m P N) (entriesOnly false root (removeWords a ∷ addWords (inodeOf names a) b ∷ []))) (release m P N root b)
     rename-call =
         plain (removeWords a ∷ addWords (inodeOf names a) b ∷ []) (release m P N root b) room (omega arith)
         (cons-small (removeWords a) (addWords (inodeOf names a) b ∷ []) (remove-small a (name-short a fine-a) small-a)
@@ -180,25 +160,25 @@ module _ (P N : ℕ) (m : Mem) (r : Ready P N m) where
     rename-names-now : namesOf (now rename-call) P N root ≡ withName b (inodeOf names a) (without a names)
     rename-names-now = names-now rename-call ∙ names-moved a b fine-a small-a fine-b small-b (inodeOf names a) names
 
-    rename-owed : Owed P N (DeadIn P N) m (prepared m P N (renameAppend m P N root a b)) (newTail m P N (renameAppend m P N root a b) ∷ release m P N root b)
+    rename-owed : Owed P N (DeadIn P N) m (prepared m P (free m P N) (entriesOnly false root (removeWords a ∷ addWords (inodeOf names a) b ∷ []))) (newTail m P (free m P N) (entriesOnly false root (removeWords a ∷ addWords (inodeOf names a) b ∷ [])) ∷ release m P N root b)
         (mapAfter N (rename a b) (mapOf m P N))
-    unfolding renameAppend
     rename-owed =
         naming-owed rename-call _ (moved-ok a b fine-a small-a fine-b small-b (inodeOf names a) N (moved .0) (moved .1)) (released-after b rename-call)
         (rw rename-names-now (rename-names m _ N names in-names (names-fine-before rename-call) a b there apart (released b rename-call)))
         (rename-map m _ P N in-names a b apart rename-names-now (released b rename-call) (released-bytes b rename-call))
 
-  pub rename-done : (a b : List ℕ) → Duty P N m (rename a b) (renameChecks m P N root a b) (renameGroups m P N root a b)
-  unfolding renameChecks renameGroups sameInode
+  pub rename-done : (a b : List ℕ) → Duty P N m (rename a b) (renameAction m P N root a b)
+  unfolding actionChecks actionGroups roomChecks renameAction sameInode entriesOnly mapAfter
   rename-done a b bytes p =
       let h : nameOk a && nameOk b ≡ true = not-false _ (p .0) in
       by-eq (inodeOf names a) (inodeOf names b)
       (λ e. rw (eq-eqb _ _ e) (nothing-safe P N m _ r (sym (rename-same m P N a b e))))
-      (λ e. rw (ne-eqb _ _ e) (owed-sound P N m r _ _ (release m P N root b) _
-      (rename-owed a b (bytes .0) (bytes .1) (rw (ne-eqb _ _ e) at (p .1 .1 .0)) (search ands) (search ands) (eqb-false _ _ (not-true _ (not-false _ (p .1 .0)))) e)))
+      (λ e. rw (ne-eqb _ _ e) (plain-sound P N m r _ refl (release m P N root b) _
+      (rename-owed a b (bytes .0) (bytes .1) (sym (one-room m P (free m P N) _) ∙ (rw (ne-eqb _ _ e) at (p .1 .1)) .0) (search ands) (search ands)
+      (eqb-false _ _ (not-true _ (not-false _ (p .1 .0)))) e)))
 
   -- Create.
-  module _ (n : List ℕ) (small : Bytes n) (i : ℕ) (found : invalidInode m P N ≡ some i) (room : noRoom m P N (entriesOnly root (addWords i n ∷ [])) ≡ false)
+  module _ (n : List ℕ) (small : Bytes n) (i : ℕ) (found : invalidInode m P N ≡ some i) (room : noRoom m P (free m P N) (entriesOnly false root (addWords i n ∷ [])) ≡ false)
       (fine : nameOk n ≡ true) (absent : inodeOf names n ≡ 0) (short : length names < 224) where
     free-inode : (isValid m i ≡ false) × (1 ≤ i) × (i < N)
     free-inode = create-inode m P N i found
@@ -206,7 +186,7 @@ module _ (P N : ℕ) (m : Mem) (r : Ready P N m) where
     abbrev emptied : Stores
     emptied = both (oneWord (headWord i) 0) (oneWord (tailWord i) 0)
 
-    create-call : Naming P N m (addWords i n ∷ []) (both (prepared m P N (entriesOnly root (addWords i n ∷ []))) emptied) ((validWord i, 1) ∷ [])
+    create-call : Naming P N m (addWords i n ∷ []) (both (prepared m P (free m P N) (entriesOnly false root (addWords i n ∷ []))) emptied) ((validWord i, 1) ∷ [])
     unfolding both
     create-call =
         let b = few-pages P N (r .sizes) in
@@ -247,8 +227,8 @@ module _ (P N : ℕ) (m : Mem) (r : Ready P N m) where
     create-names-now : namesOf (now create-call) P N root ≡ withName n i names
     create-names-now = names-now create-call ∙ names-added n fine small i names
 
-    create-owed : Owed P N (DeadIn P N) m (both (prepared m P N (entriesOnly root (addWords i n ∷ []))) emptied)
-        (newTail m P N (entriesOnly root (addWords i n ∷ [])) ∷ (validWord i, 1) ∷ []) (mapAfter N (create n) (mapOf m P N))
+    create-owed : Owed P N (DeadIn P N) m (both (prepared m P (free m P N) (entriesOnly false root (addWords i n ∷ []))) emptied)
+        (newTail m P (free m P N) (entriesOnly false root (addWords i n ∷ [])) ∷ (validWord i, 1) ∷ []) (mapAfter N (create n) (mapOf m P N))
     create-owed =
         naming-owed create-call _ (added-ok n fine small N i (free-inode .1) (free-inode .2))
         (λ k l z. by-eq k i (λ q. rw q (made (λ y. z (q ∙ y)) (taken-now .set) tail-now)) (λ q. after-now create-call k l z (other-valid k q)))
@@ -256,9 +236,10 @@ module _ (P N : ℕ) (m : Mem) (r : Ready P N m) where
         (create-map m _ P N n i found create-names-now taken-now (new-file _ P N i tail-now)
         (λ k l f. bytes-now create-call k l f (other-valid k (λ q. clash (isValid m i) (rw q at (file-is m k f .1)) (free-inode .0)))))
 
-  pub create-done : (n : List ℕ) → Duty P N m (create n) (createChecks m P N root n) (createGroups m P N root n)
-  unfolding createChecks createGroups createAppend isFull
+  pub create-done : (n : List ℕ) → Duty P N m (create n) (createAction m P N root n)
+  unfolding actionChecks actionGroups roomChecks createAction isFull entriesOnly mapAfter
   create-done n bytes p =
       let f = some-is (invalidInode m P N) (not-false _ (p .1 .1 .0)) in
-      rw (f .1) (owed-sound P N m r _ _ ((validWord (f .0), 1) ∷ []) _
-      (create-owed n bytes (f .0) (f .1) (rw (f .1) at (p .1 .1 .1 .1 .0)) (not-false _ (p .0)) (eqb-true _ _ (not-false _ (p .1 .0))) (leb-false _ _ (p .1 .1 .1 .0))))
+      rw (f .1) (append-sound P N m r _ refl ((validWord (f .0), 1) ∷ []) _ _
+      (create-owed n bytes (f .0) (f .1) (sym (one-room m P (free m P N) _) ∙ (rw (f .1) at (p .1 .1 .1 .1 .0))) (not-false _ (p .0))
+      (eqb-true _ _ (not-false _ (p .1 .0))) (leb-false _ _ (p .1 .1 .1 .0))))

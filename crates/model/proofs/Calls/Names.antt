@@ -1,44 +1,31 @@
 -- What the calls owe that change names: create, link, unlink, rename. Each appends to the directory's log and commits its tail, with the valid word
 -- of an inode where a first name comes or a last one goes.
-use mathlib.Core.Path.{_≡_, refl, sym, _∙_, ap}
-use mathlib.Core.Logic.{_⊎_, inl, inr}
-use Prim.Native.Nat.{ℕ, _+_, _*_, _/_, _%_, _^_, _≤_, _<_}
-use mathlib.Core.Bool.{Bool, true, false, cond, _&&_, not}
-use mathlib.Core.List.{List, [], _∷_, _++_, map}
-use mathlib.Core.Option.{Option, none, some}
-use native.Mathlib.Omega.{arith}
-use lib.ListN.{length}
-use lib.Dec.{eqb}
-use borrow.Author.Tests.{eqb-true, eqb-false, leb-false, eq-eqb, ne-eqb, not-false, le-leb, lt-ltb}
-use Rattle.model.specs.Lists.{all, has, distinct, foldl, isSome, orElse}
+use Rattle.model.proofs.Prelude.{_≡_, refl, _∙_, ℕ, _+_, _*_, _%_, _≤_, _<_, true, false, List, [], _∷_, map, none, some, arith, length, ne-eqb, le-leb, lt-ltb}
+use Rattle.model.specs.Lists.{all, has, distinct, foldl}
 use Rattle.model.specs.Words.{Mem}
-use Rattle.model.specs.Layout.{sizesOk, validWord, headWord, tailWord, root}
+use Rattle.model.specs.Layout.{validWord, headWord, tailWord, root}
 use Rattle.model.specs.Journal.{targetOk}
-use Rattle.model.specs.Entry.{nameOk, addWords, removeWords, nameEntryOk}
-use Rattle.model.specs.State.{nameStep, namesOf, withName, without, inodeOf, fileOf, emptyFile}
-use Rattle.model.specs.Accept.{isValid, isFile, namesOk, viewOk}
-use Rattle.model.specs.FileMap.{FileMap, mapOf, mapAfter, create, link, unlink, rename}
-use Rattle.model.specs.Stores.{Stores, oneWord, firstOf, both, over}
-use Rattle.model.specs.Calls.{Change, Append, entriesOnly, targets, dataStart, appended, freshPages, freshLog, noRoom, prepared, newTail, invalidInode, release, createAppend, linkAppend, unlinkAppend, renameAppend}
-use Rattle.model.specs.Claim.{Bytes}
-use Rattle.model.proofs.Tests.{by-bool, by-eq, no, clash, ands, some-is}
-use Rattle.model.proofs.Log.Decode.{decode, name-short}
+use Rattle.model.specs.Entry.{nameEntryOk}
+use Rattle.model.specs.State.{nameStep, namesOf}
+use Rattle.model.specs.Accept.{isValid, isFile, free, namesOk, viewOk}
+use Rattle.model.specs.FileMap.{FileMap, mapOf}
+use Rattle.model.specs.Stores.{Stores, over}
+use Rattle.model.specs.Calls.{Change, Append, entriesOnly, targets, noRoom, prepared, newTail}
+use Rattle.model.proofs.Log.Decode.{decode}
 use Rattle.model.proofs.Frame.Placed.{sizes-whole}
 use Rattle.model.proofs.Frame.Inode.{same-bytes}
 use Rattle.model.proofs.Frame.View.{view-fine, file-is, log-ok, root-valid}
-use Rattle.model.proofs.State.NamesFine.{NamesIn, leads}
-use Rattle.model.proofs.State.NamesAfter.{lastName, release-is, release-valid, Released, Taken, create-names, link-names, unlink-names, rename-names}
-use Rattle.model.proofs.State.NameEntries.{names-in, names-added, added-ok, names-removed, removed-ok, names-moved, moved-ok}
-use Rattle.model.proofs.State.Maps.{SameBytes, create-inode, create-map, link-map, unlink-map, rename-map}
-use Rattle.model.proofs.Crash.Stores.{Only, Each, only-both, only-word, over-some, one-here, one-other}
+use Rattle.model.proofs.State.Maps.{SameBytes}
+use Rattle.model.proofs.Crash.Stores.{Only, Each, over-some, one-here, one-other}
 use Rattle.model.proofs.Crash.Journal.{targetsOf, Values}
 use Rattle.model.proofs.Crash.Commit.{Ready, ready-view, committed, Owed}
-use Rattle.model.proofs.Calls.Room.{Room, room-found}
-use Rattle.model.proofs.Calls.Still.{Still, still-inode, still-prepared}
-use Rattle.model.proofs.Calls.Changed.{After, gone, made, new-file}
-use Rattle.model.proofs.Calls.Stored.{Stored, not-committed, valid-same, agree-after, after-by, Appends, prepared-low}
-use Rattle.model.proofs.Calls.Small.{Inside, SmallWords, SmallEntries, no-small, cons-small, add-small, remove-small}
-use Rattle.model.proofs.Calls.Grown.{DeadIn, few-pages, grown-names, grown-fine, grown-small, grown-tail}
+use Rattle.model.proofs.Calls.Room.{room-found}
+use Rattle.model.proofs.Calls.Actions.{only-entries}
+use Rattle.model.proofs.Calls.Still.{Still}
+use Rattle.model.proofs.Calls.Changed.{After}
+use Rattle.model.proofs.Calls.Stored.{Stored, not-committed, valid-same, agree-after, after-by, Appends}
+use Rattle.model.proofs.Calls.Small.{Inside, SmallEntries}
+use Rattle.model.proofs.Calls.Grown.{DeadIn, grown-names, grown-fine, grown-small, grown-tail}
 
 -- a committed word is what the first change of it says; a change leaves the other words to the changes after it
 pub target-here : (c : Change) (cs : List Change) → targets (c ∷ cs) (c .0) ≡ some (c .1)
@@ -77,22 +64,22 @@ valid-values (one-change i x a b c) = (omega arith, tt)
 -- A call that appends the entries es to the directory's log, stores s, and commits the tail and changes of valid words.
 pub record Naming (P N : ℕ) (m : Mem) (es : List (List ℕ)) (s : Stores) (cs : List Change) : Type 0 where
   pub ready : Ready P N m
-  pub room : noRoom m P N (entriesOnly root es) ≡ false
+  pub room : noRoom m P (free m P N) (entriesOnly false root es) ≡ false
   pub some-es : 0 < length es
   pub small : SmallEntries es
   pub still : Only (Still m P N) s
-  pub inside : Each (Inside P) (prepared m P N (entriesOnly root es)) → Each (Inside P) s
-  pub stores : (w x : ℕ) → prepared m P N (entriesOnly root es) w ≡ some x → s w ≡ some x
+  pub inside : Each (Inside P) (prepared m P (free m P N) (entriesOnly false root es)) → Each (Inside P) s
+  pub stores : (w x : ℕ) → prepared m P (free m P N) (entriesOnly false root es) w ≡ some x → s w ≡ some x
   pub valids : Valid N cs
 
 module _ {P N : ℕ} {m : Mem} {es : List (List ℕ)} {s : Stores} {cs : List Change} (c : Naming P N m es s cs) where
   open Naming c using (ready, valids)
 
   abbrev pub a : Append
-  a = entriesOnly root es
+  a = entriesOnly false root es
 
   abbrev pub changes : List Change
-  changes = newTail m P N a ∷ cs
+  changes = newTail m P (free m P N) a ∷ cs
 
   abbrev pub now : Mem
   now = committed m s changes
@@ -108,17 +95,17 @@ module _ {P N : ℕ} {m : Mem} {es : List (List ℕ)} {s : Stores} {cs : List Ch
 
   off : (w : ℕ) → (w % 8 ≡ 0 → ⊥) → (w ≡ tailWord 0 → ⊥) → targets changes w ≡ none
   unfolding newTail entriesOnly
-  off w n t = target-other (newTail m P N a) cs w t ∙ valid-off valids w n
+  off w n t = target-other (newTail m P (free m P N) a) cs w t ∙ valid-off valids w n
 
   valid-change : (i : ℕ) → targets changes (validWord i) ≡ targets cs (validWord i)
   unfolding newTail entriesOnly
-  valid-change i = target-other (newTail m P N a) cs (validWord i) (omega arith)
+  valid-change i = target-other (newTail m P (free m P N) a) cs (validWord i) (omega arith)
 
   in-table : all (targetOk N) (targetsOf changes) ≡ true
   unfolding newTail entriesOnly all
   in-table = go valids
     where
-      go : {ds : List Change} → Valid N ds → all (targetOk N) (targetsOf (newTail m P N a ∷ ds)) ≡ true
+      go : {ds : List Change} → Valid N ds → all (targetOk N) (targetsOf (newTail m P (free m P N) a ∷ ds)) ≡ true
       go no-change = rw (target-ok N (tailWord 0) (omega arith) (omega (arith, some-inode)) (omega arith))
       go (one-change i x l b e) =
           rw (target-ok N (tailWord 0) (omega arith) (omega (arith, some-inode)) (omega arith), target-ok N (validWord i) (omega arith) (omega arith) (omega arith))
@@ -127,7 +114,7 @@ module _ {P N : ℕ} {m : Mem} {es : List (List ℕ)} {s : Stores} {cs : List Ch
   unfolding newTail entriesOnly distinct has
   apart = go valids
     where
-      go : {ds : List Change} → Valid N ds → (distinct (targetsOf (newTail m P N a ∷ ds)) ≡ true) × (length (newTail m P N a ∷ ds) ≤ 4)
+      go : {ds : List Change} → Valid N ds → (distinct (targetsOf (newTail m P (free m P N) a ∷ ds)) ≡ true) × (length (newTail m P (free m P N) a ∷ ds) ≤ 4)
       go no-change = (refl, omega arith)
       go (one-change i x l b e) = (rw (ne-eqb (tailWord 0) (validWord i) (omega arith)), omega arith)
 
@@ -135,17 +122,18 @@ module _ {P N : ℕ} {m : Mem} {es : List (List ℕ)} {s : Stores} {cs : List Ch
   did = record { sizes = ready .sizes; ok = ok; still = c .still; in-table = in-table }
 
   pub appends : Appends m P N a s changes
-  unfolding entriesOnly appended newTail
+  unfolding entriesOnly newTail
   appends = record {
     did = did;
+    goes-on = refl;
     below = some-inode;
     valid = root-is;
     room = room-found m P N a (c .room);
-    some-entries = c .some-es;
+    some-entries = rw (only-entries m P (free m P N) false root es) (c .some-es);
     stores = c .stores;
     same-valid = valid-change 0 ∙ valid-root valids;
     same-head = off (headWord 0) (omega arith) (omega arith);
-    new-tail = target-here (newTail m P N a) cs;
+    new-tail = target-here (newTail m P (free m P N) a) cs;
   }
 
   -- a word that is no valid word, and not the directory's tail
@@ -154,8 +142,8 @@ module _ {P N : ℕ} {m : Mem} {es : List (List ℕ)} {s : Stores} {cs : List Ch
 
   -- the names after it
   pub names-now : namesOf now P N root ≡ foldl nameStep (namesOf m P N root) (map decode es)
-  unfolding entriesOnly appended
-  names-now = grown-names appends
+  unfolding entriesOnly
+  names-now = grown-names appends ∙ rw (only-entries m P (free m P N) false root es)
 
   -- the other inodes
   pub valid-now : (i : ℕ) → i < N → targets cs (validWord i) ≡ none → now (validWord i) ≡ m (validWord i)
@@ -178,21 +166,17 @@ module _ {P N : ℕ} {m : Mem} {es : List (List ℕ)} {s : Stores} {cs : List Ch
   -- what is owed, from the entries, the other inodes, the names and the map
   pub naming-owed : (M : FileMap) → all (nameEntryOk N) (map decode es) ≡ true → ((i : ℕ) → i < N → (i ≡ 0 → ⊥) → After m now P N i)
       → namesOk now N (namesOf now P N root) ≡ true → mapOf now P N ≡ M → Owed P N (DeadIn P N) m s changes M
-  unfolding entriesOnly appended
+  unfolding entriesOnly
   naming-owed M entries-ok others names e = record {
     harmless = c .still;
-    small = c .inside (grown-small appends (λ j. omega arith) (c .small));
+    small = c .inside (grown-small appends (λ j. omega arith) (rw (only-entries m P (free m P N) false root es) (c .small)));
     few = apart .1;
     in-table = in-table;
     apart = apart .0;
     values = (grown-tail appends, valid-values valids);
-    fine = grown-fine appends entries-ok (λ n. absurd (n refl)) (λ n. absurd (n refl)) others names;
+    fine = grown-fine appends (rw (only-entries m P (free m P N) false root es) entries-ok) (λ n. absurd (n refl)) (λ n. absurd (n refl)) others names;
     new = e;
   }
-
-  -- the directory before it
-  pub names-before : NamesIn N (namesOf m P N root)
-  names-before = names-in m P N root refl (log-ok m P N ok 0 some-inode root-is)
 
   pub names-fine-before : namesOk m N (namesOf m P N root) ≡ true
   names-fine-before = view-fine m P N ok .names

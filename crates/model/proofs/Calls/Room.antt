@@ -1,21 +1,12 @@
 -- The free pages that a call takes: each once, and serving nobody. That is what the searches find where refusal 12 does not hold.
-use mathlib.Core.Path.{_≡_, refl, sym, _∙_}
-use mathlib.Core.Logic.{_⊎_, inl, inr, ⊎-elim}
-use Prim.Native.Nat.{ℕ, _+_, _-_, _*_, _/_, _≤_, _<_}
-use mathlib.Core.Bool.{Bool, true, false, _&&_, _||_, not}
-use mathlib.Core.List.{List, []}
-use mathlib.Core.Option.{Option, some}
-use native.Mathlib.Omega.{arith}
-use lib.ListN.{length}
-use lib.Dec.{leb, ltb, eqb}
-use borrow.Author.Tests.{eqb-true, ltb-false, le-leb, lt-ltb, not-false}
-use Rattle.model.specs.Lists.{bit, allBelow, lowest, lowestFew, has, count, distinct, isSome, orElse}
+use Rattle.model.proofs.Prelude.{_≡_, refl, sym, _∙_, _⊎_, inl, inr, ℕ, _+_, _-_, _*_, _/_, _%_, _≤_, _<_, Bool, true, false, List, [], Option, none, some, arith, length, getD, ltb, eqb-true, ltb-false, not-true, le-ltb, lt-ltb}
+use Rattle.model.specs.Lists.{allBelow, lowestFew, has, count, indexOf, distinct}
 use Rattle.model.specs.Words.{Mem}
 use Rattle.model.specs.Layout.{inPages}
 use Rattle.model.specs.Accept.{uses, free}
-use Rattle.model.specs.Calls.{Append, lowestRun, logPagesBeside, dataStart, freshPages, freshLog, noRoom}
-use Rattle.model.proofs.Tests.{by-bool, no, ands, or-false, some-is, within, by-range}
-use Rattle.model.proofs.Lists.{allBelow-at, lowest-is, few-holds, few-length, few-distinct, count-none, count-once}
+use Rattle.model.specs.Calls.{Append, layPages, besides, lowestRun, runFrom, dataPages, freshPages, freshLog, noRoom}
+use Rattle.model.proofs.Tests.{by-bool, no, not-some, ands, or-false, cond-some}
+use Rattle.model.proofs.Lists.{allBelow-at, lowest-is, length-values, values-in, values-distinct, few-holds, few-length, few-distinct, has-getD, index-none, index-getD, count-none, count-once}
 use Rattle.model.proofs.Frame.Placed.{in-bounds}
 
 -- n free pages, each once
@@ -24,11 +15,11 @@ pub record Fresh (u : Mem) (P N : ℕ) (ls : List ℕ) (n : ℕ) : Type 0 where
   pub apart : distinct ls ≡ true
   pub unused : (x : ℕ) → has x ls ≡ true → free u P N x ≡ true
 
--- a run of c free data pages from d on, and n fresh log pages beside it
-pub record Room (u : Mem) (P N d c : ℕ) (ls : List ℕ) (n : ℕ) : Type 0 where
-  pub run-free : (i : ℕ) → i < c → free u P N (d + i) ≡ true
-  pub fresh : Fresh u P N ls n
-  pub beside : (x : ℕ) → has x ls ≡ true → d ≤ x → x < d + c → ⊥
+-- c fresh data pages, and n fresh log pages beside them
+pub record Room (u : Mem) (P N : ℕ) (ds : List ℕ) (c : ℕ) (ls : List ℕ) (n : ℕ) : Type 0 where
+  pub for-data : Fresh u P N ds c
+  pub for-log : Fresh u P N ls n
+  pub beside : (x : ℕ) → has x ls ≡ true → has x ds ≡ false
 
 module _ (u : Mem) (P N : ℕ) where
   pub free-in : (p : ℕ) → free u P N p ≡ true → (inPages P N p ≡ true) × (uses u P N p ≡ 0)
@@ -38,6 +29,15 @@ module _ (u : Mem) (P N : ℕ) where
   pub free-bounds : (p : ℕ) → free u P N p ≡ true → (N / 8 < p) × (p < P)
   free-bounds p e = in-bounds P N p (free-in p e .0)
 
+  -- no page
+  pub fresh-none : Fresh u P N [] 0
+  unfolding distinct has
+  fresh-none = record { number = refl; apart = refl; unused = λ x h. no h }
+
+  -- the i-th of fresh pages
+  pub fresh-at : (ls : List ℕ) (n : ℕ) → Fresh u P N ls n → (i : ℕ) → i < n → free u P N (getD ls i 0) ≡ true
+  fresh-at ls n f i l = f .unused (getD ls i 0) (has-getD ls i (omega (arith, f .number)))
+
   -- what a search for n free pages finds, if it finds enough
   pub fresh-few : (f : ℕ → Bool) (n : ℕ) → ((p : ℕ) → f p ≡ true → free u P N p ≡ true) → ltb (length (lowestFew f P 0 n)) n ≡ false
       → Fresh u P N (lowestFew f P 0 n) n
@@ -46,58 +46,82 @@ module _ (u : Mem) (P N : ℕ) where
       let b = few-length f P 0 n in
       record { number = omega arith; apart = few-distinct f P 0 n; unused = λ x h. g x (few-holds f P 0 n x h .0) }
 
-  -- a run lies inside the log and data pages
-  pub room-bounds : (d c : ℕ) (ls : List ℕ) (n : ℕ) → Room u P N d c ls n → 1 ≤ c → (N / 8 < d) × (d + c ≤ P)
-  room-bounds d c ls n r h =
-      let a = free-bounds (d + 0) (r .run-free 0 (omega arith)) in
-      let b = free-bounds (d + (c - 1)) (r .run-free (c - 1) (omega arith)) in (omega arith, omega arith)
-
-  -- a page of a run
-  pub run-page : (d c : ℕ) (ls : List ℕ) (n : ℕ) → Room u P N d c ls n → (p : ℕ) → d ≤ p → p < d + c → free u P N p ≡ true
-  run-page d c ls n r p a b = let q : d + (p - d) ≡ p = omega arith in rw q at (r .run-free (p - d) (omega arith))
-
-  -- the lowest run, if there is one
-  run-found : (a : Append) → isSome (lowestRun u P N (a .dataPages)) ≡ true → (i : ℕ) → i < a .dataPages → free u P N (dataStart u P N a + i) ≡ true
-  unfolding dataStart lowestRun
-  run-found a s i l =
-      let f = some-is (lowestRun u P N (a .dataPages)) s in
-      let h = lowest-is (λ p. allBelow (a .dataPages) (λ i. free u P N (p + i))) P 0 (f .0) (f .1) .holds in
-      rw (dataStart, f .1) (allBelow-at (a .dataPages) i (λ i. free u P N (f .0 + i)) h l)
+  -- what a search for a run of n free pages finds, if there is one
+  fresh-run : (n : ℕ) (o : Option ℕ) → lowestRun (free u P N) P n ≡ o → ltb (length (runFrom n o)) n ≡ false → Fresh u P N (runFrom n o) n
+  unfolding lowestRun
+  fresh-run n none e h = let z = ltb-false 0 n h in let q : n ≡ 0 = omega arith in rw q fresh-none
+  fresh-run n (some p) e h =
+      let t = lowest-is (λ p. allBelow n (λ i. free u P N (p + i))) P 0 p e .holds in
+      record {
+        number = length-values (λ i. i) p n;
+        apart = values-distinct p n;
+        unused = λ x m.
+            let b = values-in p n x m in
+            let q : p + (x - p) ≡ x = omega arith in
+            rw q at (allBelow-at n (x - p) (λ i. free u P N (p + i)) t (omega arith));
+      }
 
   -- the pages of an append that is not refused with 12
-  pub room-found : (a : Append) → noRoom u P N a ≡ false
-      → Room u P N (dataStart u P N a) (a .dataPages) (freshLog u P N a) (freshPages u P N a)
-  unfolding noRoom freshLog logPagesBeside
+  pub room-found : (a : Append) → noRoom u P (free u P N) a ≡ false
+      → Room u P N (dataPages u P (free u P N) a) (a .count) (freshLog u P (free u P N) a) (freshPages u P (free u P N) a)
+  unfolding noRoom freshLog dataPages besides
   room-found a e =
       let o = or-false _ _ e in
-      let d = dataStart u P N a in
-      let c = a .dataPages in
-      let t : ℕ → Bool = λ p. free u P N p && not (leb d p && ltb p (d + c)) in
+      let f = free u P N in
+      let ds = dataPages u P f a in
       record {
-        run-free = run-found a (not-false _ (o .0));
-        fresh = fresh-few t (freshPages u P N a) (λ p h. search ands) (o .1);
-        beside = λ x h p q.
-            let g = few-holds t P 0 (freshPages u P N a) x h .0 in
-            let k : not (leb d x && ltb x (d + c)) ≡ true = search ands in
-            no (rw (le-leb d x p, lt-ltb x (d + c) q) at k);
+        for-data = fresh-run (a .count) (lowestRun f P (a .count)) refl (o .0);
+        for-log = fresh-few (besides f ds) (freshPages u P f a) (λ p h. search ands) (o .1);
+        beside = λ x h. let g = few-holds (besides f ds) P 0 (freshPages u P f a) x h .0 in not-true (has x ds) (search ands);
       }
 
 -- Pages that a call takes: e p is how often it takes page p, once at most, and only where p is free.
 abbrev pub Lone : Mem → ℕ → ℕ → (ℕ → ℕ) → Type 0
 Lone u P N e = (p : ℕ) → (e p ≡ 0) ⊎ ((free u P N p ≡ true) × (e p ≤ 1))
 
--- fresh log pages and the run beside them are such pages
-pub room-lone : (u : Mem) (P N d c : ℕ) (ls : List ℕ) (n : ℕ) → Room u P N d c ls n → Lone u P N (λ p. count p ls + bit (within d (d + c) p))
-unfolding bit
-room-lone u P N d c ls n r p =
-    by-range d (d + c) p
-    (λ t a b.
-    let z : count p ls ≡ 0 = count-none p ls (by-bool (has p ls) (λ h. absurd (r .beside p h a b)) (λ h. h)) in
-    rw t (inr (run-page u P N d c ls n r p a b, omega arith)))
-    (λ t a. rw t (by-bool (has p ls)
-    (λ h. let z = count-once p ls (r .fresh .apart) in inr (r .fresh .unused p h, omega arith))
-    (λ h. let z = count-none p ls h in inl (omega arith))))
+-- fresh log pages and the data pages beside them are such pages
+pub room-lone : (u : Mem) (P N : ℕ) (ds : List ℕ) (c : ℕ) (ls : List ℕ) (n : ℕ) → Room u P N ds c ls n → Lone u P N (λ p. count p ls + count p ds)
+room-lone u P N ds c ls n r p =
+    by-bool (has p ls)
+    (λ h.
+    let a = count-once p ls (r .for-log .apart) in
+    let b = count-none p ds (r .beside p h) in
+    inr (r .for-log .unused p h, omega arith))
+    (λ h.
+    let a = count-none p ls h in
+    by-bool (has p ds) (λ g. let b = count-once p ds (r .for-data .apart) in inr (r .for-data .unused p g, omega arith))
+    (λ g. let b = count-none p ds g in inl (omega arith)))
 
--- no run: pages for a log alone
-pub log-room : (u : Mem) (P N : ℕ) (ls : List ℕ) (n : ℕ) → Fresh u P N ls n → Room u P N 0 0 ls n
-log-room u P N ls n f = record { run-free = λ i l. absurd (omega arith); fresh = f; beside = λ x h a b. omega arith }
+-- no data: pages for a log alone
+pub log-room : (u : Mem) (P N : ℕ) (ls : List ℕ) (n : ℕ) → Fresh u P N ls n → Room u P N [] 0 ls n
+unfolding has
+log-room u P N ls n f = record { for-data = fresh-none u P N; for-log = f; beside = λ x h. refl }
+
+-- Data laid into pages.
+
+module _ (ps : List ℕ) (f : ℕ → ℕ) where
+  -- it stands on them
+  pub pages-off : (w : ℕ) → has (w / 64) ps ≡ false → layPages ps f w ≡ none
+  unfolding layPages
+  pages-off w h = rw (index-none (w / 64) ps h, le-ltb (length ps) (length ps) (omega arith))
+
+  pub pages-in : (w x : ℕ) → layPages ps f w ≡ some x → has (w / 64) ps ≡ true
+  pages-in w x e = by-bool (has (w / 64) ps) (λ h. h) (λ h. not-some x (sym (pages-off w h) ∙ e))
+
+  -- the j-th word
+  pub pages-at : distinct ps ≡ true → (j : ℕ) → j < 64 * length ps → layPages ps f (64 * getD ps (j / 64) 0 + j % 64) ≡ some (f j)
+  unfolding layPages
+  pages-at d j l =
+      let p = getD ps (j / 64) 0 in
+      let a : (64 * p + j % 64) / 64 ≡ p = omega arith in
+      let b : (64 * p + j % 64) % 64 ≡ j % 64 = omega arith in
+      let i : indexOf p ps ≡ j / 64 = index-getD ps (j / 64) d (omega arith) in
+      let q : 64 * (j / 64) + j % 64 ≡ j = omega arith in
+      rw (a, b, i, lt-ltb (j / 64) (length ps) (omega arith), q)
+
+  -- every word of it is one of f's
+  pub pages-value : (w x : ℕ) → layPages ps f w ≡ some x → (j : ℕ) × (x ≡ f j)
+  unfolding layPages
+  pages-value w x e =
+      let c = cond-some (ltb (indexOf (w / 64) ps) (length ps)) (some (f (64 * indexOf (w / 64) ps + w % 64))) x e in
+      (64 * indexOf (w / 64) ps + w % 64, cc)

@@ -1,29 +1,21 @@
 -- What is stored lies inside the volume and is a word of 64 bits: pages are below P, and each word of an entry is small.
-use mathlib.Core.Path.{_≡_, refl, sym, _∙_}
-use mathlib.Core.Logic.{_⊎_, inl, inr, ⊎-elim}
-use Prim.Native.Nat.{ℕ, zero, suc, _+_, _-_, _*_, _/_, _%_, _^_, _≤_, _<_}
-use mathlib.Core.Bool.{Bool, true, false, cond, _&&_, not}
-use mathlib.Core.List.{List, [], _∷_, _++_}
-use mathlib.Core.Option.{Option, none, some}
-use native.Mathlib.Omega.{arith}
-use lib.ListN.{length, getD, List·getD-eq-default}
-use lib.Dec.{leb, ltb, eqb}
-use borrow.Author.Tests.{eqb-true, ltb-true, leb-true, eq-eqb, ne-eqb}
-use Rattle.model.specs.Lists.{bit, all, indexOf}
-use Rattle.model.specs.Words.{Mem, word, leFrom}
-use Rattle.model.specs.Layout.{sizesOk, inPages, headWord, tailWord}
-use Rattle.model.specs.Log.{tailSlots}
+use Rattle.model.proofs.Prelude.{_≡_, ℕ, zero, suc, _+_, _-_, _*_, _/_, _%_, _^_, _≤_, _<_, Bool, true, false, cond, _&&_, List, [], _∷_, _++_, none, some, arith, length, getD, List·getD-eq-default, leb, ltb, eqb}
+use Rattle.model.specs.Lists.{all, indexOf}
+use Rattle.model.specs.Stretches.{Stretch, stretches}
+use Rattle.model.specs.Words.{word}
+use Rattle.model.specs.Layout.{inPages}
 use Rattle.model.specs.Entry.{writeWords, sizeWords, nameWords, addWords, removeWords}
-use Rattle.model.specs.Stores.{Stores}
 use Rattle.model.specs.State.{File, Names}
-use Rattle.model.specs.Calls.{layEntries, tailAfter, stretchEntry, stretches, cleanFile, cleanNames}
+use Rattle.model.specs.Calls.{layEntries, tailAfter, stretchEntries, cleanFile, cleanNames}
 use Rattle.model.specs.Claim.{Bytes}
-use Rattle.model.proofs.Tests.{by-bool, by-lt, bit-le, not-some, cond-some}
+use Rattle.model.proofs.Tests.{by-bool, by-lt, not-some, cond-some}
 use Rattle.model.proofs.Lists.{has-getD, all-has}
 use Rattle.model.proofs.Words.{word-lt}
 use Rattle.model.proofs.Log.Decode.{name-short}
 use Rattle.model.proofs.Log.Live.{lay-in}
-use Rattle.model.proofs.State.NameEntries.{GoodName, GoodNames}
+use Rattle.model.proofs.State.Stretches.{Stands, stretches-stand}
+use Rattle.model.proofs.State.Stretches as stretched
+use Rattle.model.proofs.State.NameEntries.{GoodNames}
 use Rattle.model.proofs.Frame.Placed.{in-bounds}
 use Rattle.model.proofs.Crash.Stores.{Each}
 
@@ -117,11 +109,26 @@ module _ (P N : ℕ) (few : P ≤ 4096) (ps : List ℕ) (in-all : all (inPages P
             (getD (getD es (t - i) []) (o % 8) 0) x (2 ^ 64) (c .1) l (small (t - i) (o % 8)),
       )
 
--- What clean writes.
-
-append-small : (xs ys : List (List ℕ)) → SmallEntries xs → SmallEntries ys → SmallEntries (xs ++ ys)
+pub append-small : (xs ys : List (List ℕ)) → SmallEntries xs → SmallEntries ys → SmallEntries (xs ++ ys)
 append-small [] ys a b = b
 append-small (x ∷ xs) ys a b = cons-small x (xs ++ ys) (a 0) (append-small xs ys (λ i. a (suc i)) b)
+
+-- the entries of stretches of numbers below 2^32 on pages below that
+module _ (z : ℕ) (small : z < 2 ^ 64) (f : ℕ → ℕ) (pages : (i : ℕ) → f i ≤ 4096) (n i : ℕ) (short : i + n ≤ 128) where
+  stretches-are-small : (ss : List Stretch) → stretched.Each (Stands f n i) ss → SmallEntries (stretchEntries z ss)
+  unfolding stretchEntries
+  stretches-are-small [] e = no-small
+  stretches-are-small (s ∷ ss) e =
+      let h = e .0 in
+      let a = h .on 0 (omega (arith, h .some)) in
+      let b = pages (s .first + 0) in
+      cons-small (writeWords (s .first) (s .page) (s .count) z) (stretchEntries z ss)
+      (write-small (s .first) (s .page) (s .count) z (omega (arith, h .to)) (omega arith) (omega (arith, h .to)) small) (stretches-are-small ss (e .1))
+
+  pub stretches-small : SmallEntries (stretchEntries z (stretches f n i))
+  stretches-small = stretches-are-small (stretches f n i) (stretches-stand f n i)
+
+-- What clean writes.
 
 pub clean-names-small : (N : ℕ) (ns : Names) → N ≤ 256 → GoodNames N ns → SmallEntries (cleanNames ns)
 unfolding cleanNames
@@ -129,27 +136,9 @@ clean-names-small N [] l g = no-small
 clean-names-small N (p ∷ ps) l g =
     cons-small (addWords (p .1) (p .0)) (cleanNames ps) (add-small (p .1) (p .0) (omega (arith, g .0 .below)) (name-short (p .0) (g .0 .fine)) (g .0 .bytes)) (clean-names-small N ps l (g .1))
 
-module _ (f : File) (pages : (i : ℕ) → f .page i ≤ 4096) (size : f .size ≤ 65536) where
-  stretch-small : (a d c : ℕ) → a ≤ 128 → d ≤ 4096 → c ≤ 128 → SmallEntries (stretchEntry (f .size) a d c)
-  unfolding stretchEntry
-  stretch-small a d c h g l =
-      by-bool (eqb c 0) (λ e. rw e no-small)
-      (λ e. rw e (cons-small (writeWords a d c (f .size)) [] (write-small a d c (f .size) (omega arith) (omega arith) (omega arith) (omega arith)) no-small))
-
-  stretches-small : (n i a d c : ℕ) → i + n ≤ 128 → a ≤ 128 → d ≤ 4096 → c ≤ i → SmallEntries (stretches f n i a d c)
-  unfolding stretches
-  stretches-small zero i a d c t h g l = stretch-small a d c h g (omega arith)
-  stretches-small (suc n) i a d c t h g l =
-      by-bool (not (eqb (f .page i) 0) && not (eqb c 0) && eqb (f .page i) (d + c))
-      (λ e. rw (stretches, e) (stretches-small n (i + 1) a d (c + 1) (omega arith) h g (omega arith)))
-      (λ e.
-      let b = bit-le (not (eqb (f .page i) 0)) in
-      rw (stretches, e) (append-small (stretchEntry (f .size) a d c) _ (stretch-small a d c h g (omega arith))
-      (stretches-small n (i + 1) i (f .page i) (bit (not (eqb (f .page i) 0))) (omega arith) (omega arith) (pages i) (omega arith))))
-
-  pub clean-file-small : SmallEntries (cleanFile f)
-  unfolding cleanFile
-  clean-file-small =
-      by-bool (eqb (length (stretches f 128 0 0 0 0)) 0)
-      (λ e. rw e (by-bool (eqb (f .size) 0) (λ z. rw z no-small) (λ z. rw z (cons-small (sizeWords (f .size)) [] (size-small (f .size) (omega arith)) no-small))))
-      (λ e. rw e (stretches-small 128 0 0 0 0 (omega arith) (omega arith) (omega arith) (omega arith)))
+pub clean-file-small : (f : File) → ((i : ℕ) → f .page i ≤ 4096) → f .size ≤ 65536 → SmallEntries (cleanFile f)
+unfolding cleanFile
+clean-file-small f pages size =
+    by-bool (eqb (length (stretchEntries (f .size) (stretches (f .page) 128 0))) 0)
+    (λ e. rw e (by-bool (eqb (f .size) 0) (λ z. rw z no-small) (λ z. rw z (cons-small (sizeWords (f .size)) [] (size-small (f .size) (omega arith)) no-small))))
+    (λ e. rw e (stretches-small (f .size) (omega arith) (f .page) pages 128 0 (omega arith)))

@@ -1,31 +1,23 @@
 -- What a call stores before its commit: words that no reading looks at, outside page 0. Free pages, the words past a tail, the head of an
 -- empty log, and head and tail of an invalid inode are such words.
-use mathlib.Core.Path.{_≡_, refl, sym, _∙_}
-use mathlib.Core.Logic.{_⊎_, inl, inr, ⊎-elim}
-use Prim.Native.Nat.{ℕ, _+_, _-_, _*_, _/_, _%_, _≤_, _<_}
-use mathlib.Core.Bool.{Bool, true, false}
-use mathlib.Core.List.{List, [], _∷_, _++_}
-use native.Mathlib.Omega.{arith}
-use lib.ListN.{getD}
-use lib.Dec.{eqb}
-use borrow.Author.Tests.{eqb-true, eq-eqb, ne-eqb}
+use Rattle.model.proofs.Prelude.{_≡_, refl, _⊎_, inl, inr, ⊎-elim, ℕ, _+_, _-_, _/_, _≤_, _<_, Bool, true, false, cond, _&&_, not, List, [], _∷_, _++_, arith, eqb, eqb-true, eq-eqb, ne-eqb}
 use Rattle.model.specs.Lists.{has}
 use Rattle.model.specs.Words.{Mem}
 use Rattle.model.specs.Layout.{headWord, tailWord}
 use Rattle.model.specs.Log.{tailSlots}
 use Rattle.model.specs.Accept.{isValid, free, viewOk}
-use Rattle.model.specs.Stores.{Stores, oneWord, run, both, onlyIf}
-use Rattle.model.specs.Calls.{Append, layEntries, tailPages, dataStart, appended, freshPages, freshLog, prepared}
-use Rattle.model.proofs.Tests.{by-eq}
+use Rattle.model.specs.Stores.{Stores, oneWord, both, onlyIf}
+use Rattle.model.specs.Calls.{Append, layEntries, layPages, tailPages, dataPages, appended, oldPages, oldSlots, freshPages, freshLog, prepared}
+use Rattle.model.proofs.Tests.{by-eq, no}
 use Rattle.model.proofs.Lists.{has-cons}
 use Rattle.model.proofs.Log.Extend.{tail-slots}
 use Rattle.model.proofs.Log.Live.{lay-in, lay-first}
 use Rattle.model.proofs.Frame.Placed.{in-bounds}
 use Rattle.model.proofs.Frame.Inode.{full, page-in, tail-page}
 use Rattle.model.proofs.Frame.View.{log-ok}
-use Rattle.model.proofs.Frame.Dead.{Dead, low, inFree, pastTail, head, tail}
-use Rattle.model.proofs.Crash.Stores.{Only, only-both, only-if, only-word, only-run}
-use Rattle.model.proofs.Calls.Room.{free-bounds, Room, run-page}
+use Rattle.model.proofs.Frame.Dead.{Dead, inFree, pastTail, head, tail}
+use Rattle.model.proofs.Crash.Stores.{Only, only-both, only-if, only-word}
+use Rattle.model.proofs.Calls.Room.{free-bounds, Room, pages-in}
 
 -- a word that no reading of u looks at, outside page 0
 abbrev pub Still : Mem → ℕ → ℕ → ℕ → Type 0
@@ -40,11 +32,9 @@ module _ (u : Mem) (P N : ℕ) where
       → Only (Still u P N) (layEntries ls i es)
   still-lay ls i es f w x e = still-free w (f (w / 64) (lay-in ls i es w x e))
 
-  -- a run of free pages
-  still-run : (d c : ℕ) (f : ℕ → ℕ) (ls : List ℕ) (n : ℕ) → Room u P N d c ls n → Only (Still u P N) (run (64 * d) (64 * c) f)
-  still-run d c f ls n r =
-      only-run (λ w x. Still u P N w) (64 * d) (64 * c) f
-      (λ j l. still-free (64 * d + j) (run-page u P N d c ls n r ((64 * d + j) / 64) (omega arith) (omega arith)))
+  -- data laid into free pages
+  still-pages : (ds : List ℕ) (f : ℕ → ℕ) → ((x : ℕ) → has x ds ≡ true → free u P N x ≡ true) → Only (Still u P N) (layPages ds f)
+  still-pages ds f g w x e = still-free w (g (w / 64) (pages-in ds f w x e))
 
   -- head and tail of an invalid inode
   pub still-inode : (i x y : ℕ) → i < N → isValid u i ≡ false → Only (Still u P N) (both (oneWord (headWord i) x) (oneWord (tailWord i) y))
@@ -70,12 +60,21 @@ module _ (u : Mem) (P N : ℕ) where
         ⊎-elim (λ c. let g = lay-first q ls (tailSlots u k) es w x (omega arith) e′ c in (pastTail k l v t c (omega arith), omega arith))
         (λ h. still-free w (f (w / 64) h)) (has-cons (w / 64) q ls (lay-in (q ∷ ls) (tailSlots u k) es w x e′)))
 
+    -- the first group: b says whether the log is written anew, and s stores the data
+    still-log : (b : Bool) (ls : List ℕ) (es : List (List ℕ)) (x : ℕ) → ((p : ℕ) → has p ls ≡ true → free u P N p ≡ true)
+        → (s : Stores) → Only (Still u P N) s
+        → Only (Still u P N) (both (layEntries (cond b [] (tailPages u k) ++ ls) (cond b 0 (tailSlots u k)) es)
+        (both (onlyIf (not b && eqb (u (tailWord k)) 0) (oneWord (headWord k) x)) s))
+    still-log true ls es x f s g = only-both (still-lay ls 0 es f) (only-both (only-if false (λ t. no t)) g)
+    still-log false ls es x f s g =
+        only-both (still-behind ls es f) (only-both
+        (only-if (eqb (u (tailWord k)) 0) (λ t. only-word (λ w x. Still u P N w) (headWord k) x (head k l refl (inr (eqb-true _ _ t)), omega arith))) g)
+
   -- the first group of an append
   pub still-prepared : viewOk u P N ≡ true → (a : Append) → a .log < N → isValid u (a .log) ≡ true
-      → Room u P N (dataStart u P N a) (a .dataPages) (freshLog u P N a) (freshPages u P N a) → Only (Still u P N) (prepared u P N a)
-  unfolding prepared
+      → Room u P N (dataPages u P (free u P N) a) (a .count) (freshLog u P (free u P N) a) (freshPages u P (free u P N) a)
+      → Only (Still u P N) (prepared u P (free u P N) a)
+  unfolding prepared oldPages oldSlots
   still-prepared ok a l v r =
-      only-both (still-run (dataStart u P N a) (a .dataPages) (a .words) (freshLog u P N a) (freshPages u P N a) r)
-      (only-both (still-behind ok (a .log) l v (freshLog u P N a) (appended u P N a) (r .fresh .unused))
-      (only-if (eqb (u (tailWord (a .log))) 0)
-      (λ t. only-word (λ w x. Still u P N w) (headWord (a .log)) (getD (freshLog u P N a) 0 0) (head (a .log) l refl (inr (eqb-true _ _ t)), omega arith))))
+      still-log ok (a .log) l v (a .anew) (freshLog u P (free u P N) a) (appended u P (free u P N) a) _ (r .for-log .unused)
+      _ (still-pages (dataPages u P (free u P N) a) (a .words) (r .for-data .unused))

@@ -1,39 +1,30 @@
 -- A call that stores dead words and then commits words of the inode table. An inode none of whose words is committed is kept word for word; the
 -- log that the call appends to reads as its old entries and the new ones.
-use mathlib.Core.Path.{_≡_, refl, sym, _∙_}
-use mathlib.Core.Logic.{_⊎_, inl, inr, ⊎-elim}
-use Prim.Native.Nat.{ℕ, _+_, _-_, _*_, _/_, _%_, _≤_, _<_}
-use mathlib.Core.Bool.{Bool, true, false, cond}
-use mathlib.Core.List.{List, [], _∷_, _++_, map}
-use mathlib.Core.Option.{Option, none, some}
-use native.Mathlib.Omega.{arith}
-use lib.ListN.{length, getD}
-use lib.Dec.{ltb, eqb}
-use borrow.Author.Tests.{eqb-true, eq-eqb, ne-eqb, ltb-true}
+use Rattle.model.proofs.Prelude.{_≡_, _∙_, ap, _⊎_, inl, inr, ⊎-elim, ℕ, _+_, _-_, _*_, _/_, _%_, _≤_, _<_, Bool, true, false, cond, _&&_, not, List, [], _∷_, _++_, map, none, some, arith, length, getD, eqb, eq-eqb, ne-eqb}
 use Rattle.model.specs.Lists.{all, has}
 use Rattle.model.specs.Words.{Mem}
 use Rattle.model.specs.Layout.{sizesOk, inPages, validWord, headWord, tailWord}
 use Rattle.model.specs.Journal.{targetOk}
 use Rattle.model.specs.Log.{pages, tailSlots, entries}
-use Rattle.model.specs.State.{fileOf, bytesOf}
+use Rattle.model.specs.State.{fileOf}
 use Rattle.model.specs.Accept.{isValid, usesBy, uses, free, logOk, viewOk}
-use Rattle.model.specs.Stores.{Stores, oneWord, run, firstOf, both, onlyIf, over}
-use Rattle.model.specs.Calls.{Change, Append, layEntries, tailAfter, tailPages, targets, dataStart, appended, freshPages, freshLog, prepared, newTail}
-use Rattle.model.proofs.Tests.{by-bool, by-eq, no, ands, outside, inside}
-use Rattle.model.proofs.Lists.{sumBelow-one, has-cons, has-append, all-has, all-by}
+use Rattle.model.specs.Stores.{Stores, oneWord, both, onlyIf, over}
+use Rattle.model.specs.Calls.{Change, Append, layEntries, layPages, pagesFor, tailAfter, tailPages, targets, dataPages, appended, oldPages, oldSlots, freshPages, freshLog, prepared, newTail, ownChanges}
+use Rattle.model.proofs.Tests.{by-bool, by-eq, no, clash, not-true-false}
+use Rattle.model.proofs.Lists.{sumBelow-one, has-cons, has-append, has-getD, all-has, all-by}
 use Rattle.model.proofs.Log.Decode.{decode}
 use Rattle.model.proofs.Log.Pages.{Reads, SameLive}
-use Rattle.model.proofs.Log.Live.{lay-in}
+use Rattle.model.proofs.Log.Live.{lay-page, lay-in}
 use Rattle.model.proofs.Log.Extend.{Holds, Fits, append-log}
 use Rattle.model.proofs.Log.Append.{lay-low, tail-inside}
 use Rattle.model.proofs.Frame.Placed.{sizes-whole, in-bounds, SamePages}
-use Rattle.model.proofs.Frame.Inode.{Agree, log-is, page-in, tail-page, mapped-in, same-bytes}
+use Rattle.model.proofs.Frame.Inode.{Agree, log-is, page-in, tail-page, mapped-in}
 use Rattle.model.proofs.Frame.View.{log-ok}
 use Rattle.model.proofs.Frame.Dead.{Dead, serves, same-valid, agrees}
 use Rattle.model.proofs.Crash.Stores.{Only, only-cases, over-none, over-some, one-here, one-other}
 use Rattle.model.proofs.Crash.Journal.{targetsOf, targets-outside, target-high}
 use Rattle.model.proofs.Crash.Commit.{committed}
-use Rattle.model.proofs.Calls.Room.{Fresh, Room, free-in, free-bounds, room-bounds, run-page}
+use Rattle.model.proofs.Calls.Room.{Room, free-in, free-bounds, fresh-at, pages-off, pages-at}
 use Rattle.model.proofs.Calls.Still.{Still}
 use Rattle.model.proofs.Calls.Changed.{After, kept, idle}
 
@@ -100,141 +91,192 @@ module _ {m : Mem} {P N : ℕ} {s : Stores} {cs : List Change} (did : Stored m P
       → After m u P N i
   after-by i l e t h = by-bool (isValid m i) (λ v. kept v (agree-after i l v e t h)) (λ v. idle v (valid-same i l e))
 
--- An append: s stores its first group, beside other words of the inode table, and cs commits its tail, but neither head nor valid word of its log's inode.
+-- An append to a log that goes on: where entries are laid, and what commits them.
+module _ (u : Mem) (P : ℕ) (f : ℕ → Bool) (a : Append) (on : a .anew ≡ false) where
+  abbrev k : ℕ
+  k = a .log
+
+  abbrev ls : List ℕ
+  ls = freshLog u P f a
+
+  pages-on : oldPages u P f a ≡ tailPages u k
+  unfolding oldPages
+  pages-on = ap (λ b. cond b [] (tailPages u k)) on
+
+  slots-on : oldSlots u P f a ≡ tailSlots u k
+  unfolding oldSlots
+  slots-on = ap (λ b. cond b 0 (tailSlots u k)) on
+
+  pub fresh-on : freshPages u P f a ≡ pagesFor (tailSlots u k + length (appended u P f a)) - length (tailPages u k)
+  unfolding freshPages
+  fresh-on = rw (pages-on, slots-on)
+
+  pub prepared-on : prepared u P f a
+      ≡ both (layEntries (tailPages u k ++ ls) (tailSlots u k) (appended u P f a))
+      (both (onlyIf (eqb (u (tailWord k)) 0) (oneWord (headWord k) (getD ls 0 0))) (layPages (dataPages u P f a) (a .words)))
+  unfolding prepared
+  prepared-on =
+      rw (pages-on, slots-on) (ap (λ b. both (layEntries (tailPages u k ++ ls) (tailSlots u k) (appended u P f a))
+      (both (onlyIf (not b && eqb (u (tailWord k)) 0) (oneWord (headWord k) (getD ls 0 0))) (layPages (dataPages u P f a) (a .words)))) on)
+
+  pub tail-on : newTail u P f a ≡ (tailWord k, tailAfter (tailPages u k ++ ls) (tailSlots u k) (length (appended u P f a)))
+  unfolding newTail
+  tail-on = rw (pages-on, slots-on)
+
+  pub changes-on : ownChanges u P f a ≡ newTail u P f a ∷ []
+  unfolding ownChanges
+  changes-on = ap (λ b. cond b ((headWord k, getD ls 0 0) ∷ newTail u P f a ∷ []) (newTail u P f a ∷ [])) on
+
+-- a page that is free serves no log
+pub not-logged : (m : Mem) (P N i : ℕ) → i < N → isValid m i ≡ true → (x : ℕ) → free m P N x ≡ true → has x (pages m P N i) ≡ true → ⊥
+unfolding uses
+not-logged m P N i l v x f h =
+    let a = sumBelow-one N i (usesBy m P N x) l in
+    let b = free-in m P N x f .1 in
+    let g = serves m P N i x v h in omega arith
+
+-- s stores its first group, beside other words of the inode table, and cs commits its tail, but neither head nor valid word of its log's inode.
 pub record Appends (m : Mem) (P N : ℕ) (a : Append) (s : Stores) (cs : List Change) : Type 0 where
   pub did : Stored m P N s cs
+  pub goes-on : a .anew ≡ false
   pub below : a .log < N
   pub valid : isValid m (a .log) ≡ true
-  pub room : Room m P N (dataStart m P N a) (a .dataPages) (freshLog m P N a) (freshPages m P N a)
-  pub some-entries : 0 < length (appended m P N a)
-  pub stores : (w x : ℕ) → prepared m P N a w ≡ some x → s w ≡ some x
+  pub room : Room m P N (dataPages m P (free m P N) a) (a .count) (freshLog m P (free m P N) a) (freshPages m P (free m P N) a)
+  pub some-entries : 0 < length (appended m P (free m P N) a)
+  pub stores : (w x : ℕ) → prepared m P (free m P N) a w ≡ some x → s w ≡ some x
   pub same-valid : targets cs (validWord (a .log)) ≡ none
   pub same-head : targets cs (headWord (a .log)) ≡ none
-  pub new-tail : targets cs (tailWord (a .log)) ≡ some (newTail m P N a .1)
+  pub new-tail : targets cs (tailWord (a .log)) ≡ some (newTail m P (free m P N) a .1)
 
 module _ {m : Mem} {P N : ℕ} {a : Append} {s : Stores} {cs : List Change} (c : Appends m P N a s cs) where
   open Appends c using (did, room)
   open Stored (c .did) using (sizes, ok)
 
-  abbrev k : ℕ
-  k = a .log
+  abbrev i : ℕ
+  i = a .log
 
-  abbrev d : ℕ
-  d = dataStart m P N a
+  abbrev ds : List ℕ
+  ds = dataPages m P (free m P N) a
 
-  abbrev ls : List ℕ
-  ls = freshLog m P N a
+  abbrev fresh : List ℕ
+  fresh = freshLog m P (free m P N) a
 
   abbrev es : List (List ℕ)
-  es = appended m P N a
+  es = appended m P (free m P N) a
 
   abbrev now : Mem
   now = committed m s cs
 
-  log-fine : logOk m P N k ≡ true
-  log-fine = log-ok m P N ok k (c .below) (c .valid)
+  log-fine : logOk m P N i ≡ true
+  log-fine = log-ok m P N ok i (c .below) (c .valid)
 
-  -- a page that is free serves no log
-  not-logged : (x : ℕ) → free m P N x ≡ true → has x (pages m P N k) ≡ true → ⊥
-  unfolding uses
-  not-logged x f h =
-      let a = sumBelow-one N k (usesBy m P N x) (c .below) in
-      let b = free-in m P N x f .1 in
-      let g = serves m P N k x (c .valid) h in omega arith
-
-  pub fits : Fits m P N k (pages m P N k) ls es
-  unfolding freshPages
+  pub fits : Fits m P N i (pages m P N i) fresh es
   fits = record {
-    was = log-is m P N k log-fine;
-    apart-ls = room .fresh .apart;
-    inside = all-by (inPages P N) ls (λ x h. free-in m P N x (room .fresh .unused x h) .0);
-    new = λ x h. by-bool (has x ls) (λ g. absurd (not-logged x (room .fresh .unused x g) h)) (λ g. g);
-    needed = room .fresh .number;
+    was = log-is m P N i log-fine;
+    apart-ls = room .for-log .apart;
+    inside = all-by (inPages P N) fresh (λ x h. free-in m P N x (room .for-log .unused x h) .0);
+    new = λ x h. by-bool (has x fresh) (λ g. absurd (not-logged m P N i (c .below) (c .valid) x (room .for-log .unused x g) h)) (λ g. g);
+    needed = room .for-log .number ∙ fresh-on m P (free m P N) a (c .goes-on);
     some-es = c .some-entries;
   }
 
   abbrev laid : Stores
-  laid = layEntries (tailPages m k ++ ls) (tailSlots m k) es
+  laid = layEntries (tailPages m i ++ fresh) (tailSlots m i) es
 
-  -- the run and the log's pages lie apart
-  off-run : (w : ℕ) → has (w / 64) (tailPages m k ++ ls) ≡ true → 64 * d ≤ w → w < 64 * d + 64 * a .dataPages → ⊥
+  -- no data page is one of the log's
+  off-log : (w : ℕ) → has (w / 64) ds ≡ true → has (w / 64) (tailPages m i ++ fresh) ≡ false
   unfolding tailPages has
-  off-run w h p q =
-      let f = run-page m P N d (a .dataPages) ls (freshPages m P N a) room (w / 64) (omega arith) (omega arith) in
-      ⊎-elim
-      (λ i. by-eq (m (tailWord k)) 0 (λ t. no (rw t at i))
-      (λ t. ⊎-elim (λ g. not-logged (w / 64) f (rw g (tail-page m P N k log-fine t))) (λ g. no g)
-      (has-cons (w / 64) (m (tailWord k) / 512) [] (rw (ne-eqb _ _ t) at i))))
-      (λ i. room .beside (w / 64) i (omega arith) (omega arith)) (has-append (w / 64) (tailPages m k) ls h)
+  off-log w d =
+      not-true-false _ (λ h. ⊎-elim
+      (λ g. by-eq (m (tailWord i)) 0 (λ t. no (rw t at g))
+      (λ t. ⊎-elim (λ q. not-logged m P N i (c .below) (c .valid) (w / 64) (room .for-data .unused (w / 64) d) (rw q (tail-page m P N i log-fine t))) (λ q. no q)
+      (has-cons (w / 64) (m (tailWord i) / 512) [] (rw (ne-eqb _ _ t) at g))))
+      (λ g. clash (has (w / 64) ds) d (room .beside (w / 64) g)) (has-append (w / 64) (tailPages m i) fresh h))
 
   -- what is laid is stored
   laid-stored : (w x : ℕ) → laid w ≡ some x → s w ≡ some x
-  unfolding prepared both run
-  laid-stored w x e =
-      c .stores w x (rw (outside (64 * d) (64 * d + 64 * a .dataPages) w (off-run w (lay-in (tailPages m k ++ ls) (tailSlots m k) es w x e)), e))
+  unfolding both
+  laid-stored w x e = c .stores w x (rw (prepared-on m P (free m P N) a (c .goes-on), e))
 
   holds : Holds now laid
   holds w x e =
-      let y = all-has (inPages P N) (w / 64) (tailPages m k ++ ls) (tail-inside fits) (lay-in (tailPages m k ++ ls) (tailSlots m k) es w x e) in
+      let y = all-has (inPages P N) (w / 64) (tailPages m i ++ fresh) (tail-inside fits) (lay-in (tailPages m i ++ fresh) (tailSlots m i) es w x e) in
       let b = in-bounds P N (w / 64) y in
       let z = sizes-whole P N sizes .0 in
       high-same did w (omega arith) ∙ over-some s m w x (laid-stored w x e)
 
-  -- in page 0 and the inode table nothing is stored but a head
-  pub prepared-low : (w : ℕ) → w < 64 + 8 * N → (w ≡ headWord k → ⊥) → prepared m P N a w ≡ none
-  unfolding prepared both run onlyIf
+  -- no data in page 0 and the inode table
+  data-low : (w : ℕ) → w < 64 + 8 * N → layPages ds (a .words) w ≡ none
+  data-low w l =
+      let z = sizes-whole P N sizes .0 in
+      pages-off ds (a .words) w (by-bool (has (w / 64) ds)
+      (λ h. let b = free-bounds m P N (w / 64) (room .for-data .unused (w / 64) h) in absurd (omega arith)) (λ h. h))
+
+  -- there nothing is stored but a head
+  pub prepared-low : (w : ℕ) → w < 64 + 8 * N → (w ≡ headWord i → ⊥) → prepared m P (free m P N) a w ≡ none
+  unfolding both onlyIf
   prepared-low w l n =
       let z = sizes-whole P N sizes .0 in
       rw (
-        outside (64 * d) (64 * d + 64 * a .dataPages) w
-            (λ p q. let f = free-bounds m P N _ (run-page m P N d (a .dataPages) ls (freshPages m P N a) room (w / 64) (omega arith) (omega arith)) in omega arith),
-        lay-low P N (tailPages m k ++ ls) (tailSlots m k) es z (tail-inside fits) w l,
-        one-other (headWord k) (getD ls 0 0) w n,
+        prepared-on m P (free m P N) a (c .goes-on),
+        data-low w l,
+        lay-low P N (tailPages m i ++ fresh) (tailSlots m i) es z (tail-inside fits) w l,
+        one-other (headWord i) (getD fresh 0 0) w n,
       )
-      (by-bool (eqb (m (tailWord k)) 0) (λ t. rw t) (λ t. rw t))
+      (by-bool (eqb (m (tailWord i)) 0) (λ t. rw t) (λ t. rw t))
 
   -- an empty log gets its head
-  head-stored : m (tailWord k) ≡ 0 → s (headWord k) ≡ some (getD ls 0 0)
-  unfolding prepared both run onlyIf
+  head-stored : m (tailWord i) ≡ 0 → s (headWord i) ≡ some (getD fresh 0 0)
+  unfolding both onlyIf
   head-stored t =
       let l = c .below in
       let z = sizes-whole P N sizes .0 in
-      c .stores (headWord k) (getD ls 0 0) (rw (
-        outside (64 * d) (64 * d + 64 * a .dataPages) (headWord k)
-            (λ p q. let f = free-bounds m P N _ (run-page m P N d (a .dataPages) ls (freshPages m P N a) room (headWord k / 64) (omega arith) (omega arith)) in omega arith),
-        lay-low P N (tailPages m k ++ ls) (tailSlots m k) es z (tail-inside fits) (headWord k) (omega arith),
+      c .stores (headWord i) (getD fresh 0 0) (rw (
+        prepared-on m P (free m P N) a (c .goes-on),
+        lay-low P N (tailPages m i ++ fresh) (tailSlots m i) es z (tail-inside fits) (headWord i) (omega arith),
         eq-eqb _ _ t,
-        one-here (headWord k) (getD ls 0 0),
+        one-here (headWord i) (getD fresh 0 0),
       ))
 
-  head-after : now (headWord k) ≡ cond (eqb (m (tailWord k)) 0) (getD ls 0 0) (m (headWord k))
+  head-after : now (headWord i) ≡ cond (eqb (m (tailWord i)) 0) (getD fresh 0 0) (m (headWord i))
   head-after =
-      not-committed did (headWord k) (c .same-head) ∙
-      by-eq (m (tailWord k)) 0 (λ t. rw (eq-eqb _ _ t) (over-some s m (headWord k) _ (head-stored t)))
-      (λ t. rw (ne-eqb _ _ t) (before did k (c .below) (c .valid) .head t))
+      not-committed did (headWord i) (c .same-head) ∙
+      by-eq (m (tailWord i)) 0 (λ t. rw (eq-eqb _ _ t) (over-some s m (headWord i) _ (head-stored t)))
+      (λ t. rw (ne-eqb _ _ t) (before did i (c .below) (c .valid) .head t))
 
   -- the log reads as the old entries and the new ones
-  pub reads-after : Reads now P N k (pages m P N k ++ ls) (entries m P N k ++ map decode es)
-  unfolding committed newTail
+  pub reads-after : Reads now P N i (pages m P N i ++ fresh) (entries m P N i ++ map decode es)
+  unfolding committed
   reads-after =
       append-log (record {
         fits = fits;
-        live = live did k (c .below) (c .valid);
+        live = live did i (c .below) (c .valid);
         holds = holds;
         head = head-after;
-        tail = over-some (targets cs) (over s m) (tailWord k) _ (c .new-tail);
+        tail = over-some (targets cs) (over s m) (tailWord i) _ (c .new-tail) ∙ rw (tail-on m P (free m P N) a (c .goes-on));
       })
 
   -- the words of the fresh data pages
-  pub run-stored : (j : ℕ) → j < 64 * a .dataPages → now (64 * d + j) ≡ a .words j
-  unfolding prepared both run
-  run-stored j l =
-      let b = room-bounds m P N d (a .dataPages) ls (freshPages m P N a) room (omega arith) in
+  pub data-stored : (j : ℕ) → j < 64 * a .count → now (64 * getD ds (j / 64) 0 + j % 64) ≡ a .words j
+  unfolding both onlyIf
+  data-stored j l =
+      let n = room .for-data .number in
+      let p = getD ds (j / 64) 0 in
+      let w = 64 * p + j % 64 in
+      let b = free-bounds m P N p (fresh-at m P N ds (a .count) (room .for-data) (j / 64) (omega arith)) in
       let z = sizes-whole P N sizes .0 in
-      let q : 64 * d + j - 64 * d ≡ j = omega arith in
-      high-same did (64 * d + j) (omega arith)
-      ∙ over-some s m (64 * d + j) (a .words j)
-      (c .stores (64 * d + j) (a .words j) (rw (inside (64 * d) (64 * d + 64 * a .dataPages) (64 * d + j) (omega arith) (omega arith), q)))
+      let g = c .below in
+      let d : w / 64 ≡ p = omega arith in
+      let h : has (w / 64) ds ≡ true = rw d (has-getD ds (j / 64) (omega arith)) in
+      high-same did w (omega arith)
+      ∙ over-some s m w (a .words j)
+      (c .stores w (a .words j) (rw (
+        prepared-on m P (free m P N) a (c .goes-on),
+        lay-page (tailPages m i ++ fresh) (tailSlots m i) es w (off-log w h),
+        one-other (headWord i) (getD fresh 0 0) w (omega arith),
+        pages-at ds (a .words) (room .for-data .apart) j (omega arith),
+      )
+      (by-bool (eqb (m (tailWord i)) 0) (λ t. rw t) (λ t. rw t))))
 
-  pub valid-after : isValid now k ≡ true
-  valid-after = rw (valid-same did k (c .below) (c .same-valid)) (c .valid)
+  pub valid-after : isValid now i ≡ true
+  valid-after = rw (valid-same did i (c .below) (c .same-valid)) (c .valid)

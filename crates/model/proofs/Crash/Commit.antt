@@ -1,14 +1,7 @@
 -- What a power cut leaves of a call's groups: the part of the claim that is the same for all calls.
 -- Up to the one store that commits, the view differs from the one before in dead words alone; from then on it is the view after.
 -- Word 8 is the journal's dequeue position, word 9 its enqueue position.
-use mathlib.Core.Path.{_≡_, refl, sym, _∙_, ap}
-use mathlib.Core.Logic.{_⊎_, inl, inr, ⊎-elim}
-use Prim.Native.Nat.{ℕ, zero, suc, _+_, _*_, _%_, _^_, _≤_, _<_}
-use mathlib.Core.Bool.{Bool, true, false, cond}
-use mathlib.Core.List.{List, [], _∷_}
-use mathlib.Core.Option.{none, some}
-use native.Mathlib.Omega.{arith}
-use lib.ListN.{length}
+use Rattle.model.proofs.Prelude.{_≡_, refl, sym, _∙_, ap, _⊎_, inl, inr, ⊎-elim, ℕ, zero, suc, _+_, _*_, _%_, _^_, _≤_, _<_, Bool, true, false, cond, List, [], _∷_, none, some, arith, length}
 use Rattle.model.specs.Lists.{all, has, distinct}
 use Rattle.model.specs.Words.{Mem}
 use Rattle.model.specs.Layout.{sizesOk}
@@ -17,7 +10,7 @@ use Rattle.model.specs.Journal.{targetWord, oldWord, openCount, openPosi
 use Rattle.model.specs.Accept.{viewOk, accepted}
 use Rattle.model.specs.FileMap.{FileMap, mapOf}
 use Rattle.model.specs.Power.{cut}
-use Rattle.model.specs.Calls.{Change, journalPairs, targets, commitOne, commitTogether, commit, oldValues, recoverGroups}
+use Rattle.model.specs.Calls.{Change, journalPairs, targets, commitOne, commitTogether, commit, allPrepared, allChanges, actionGroups, oldValues, recoverAction}
 use Rattle.model.proofs.Tests.{by-bool, by-eq, by-lt, cond-some, ands}
 use Rattle.model.proofs.Lists.{all-has}
 use Rattle.model.proofs.Crash.Stores.{over-none, over-some, over-same, over-here, over-other, over-both, part, part-none, part-one, Each, Only, only-word, only-both, only-part, only-imp, only-not, only-cases}
@@ -194,7 +187,7 @@ module _ (P N : ℕ) (Dead : Mem → ℕ → Type 0)
       e = (m 9 + length cs) % 16
 
       abbrev first : Stores
-      first = both (journalPairs m (m 9) cs) s
+      first = both s (journalPairs m (m 9) cs)
 
       abbrev opened : Mem
       opened = over (oneWord 9 e) (over first m)
@@ -207,18 +200,16 @@ module _ (P N : ℕ) (Dead : Mem → ℕ → Type 0)
 
       first-quiet : Only (λ w. Dead m w × (16 ≤ w)) first
       first-quiet =
-          only-both
+          only-both (quiet s cs M o)
           (pairs-each _ m (m 9) cs (journal .enqueue)
           (λ k t l h. ((page0-dead m (targetWord k) (omega arith), omega arith), (page0-dead m (oldWord k) (omega arith), omega arith))))
-          (quiet s cs M o)
 
       first-fits : Each (Fit (64 * P)) first
       first-fits =
           let b = sizes-parts P N (r .sizes) in
-          only-both
+          only-both (fits-stores s cs M o)
           (pairs-each _ m (m 9) cs (journal .enqueue)
           (λ k t l h. let z = target-fits s cs M o t h in ((omega arith, omega arith, omega arith), (omega arith, omega arith, r .words t))))
-          (fits-stores s cs M o)
 
       opened-dequeue : opened 8 ≡ m 9
       opened-dequeue =
@@ -236,12 +227,14 @@ module _ (P N : ℕ) (Dead : Mem → ℕ → Type 0)
       opened-logged =
           let h = journal .enqueue in
           let f = o .few in
-          logged-same (over (journalPairs m (m 9) cs) (over s m)) opened m (m 9) cs h
-          (λ k g d. (same (targetWord k) (omega arith), same (oldWord k) (omega arith)))
-          (logged-pairs m (over s m) (m 9) cs h (omega arith))
+          logged-same (over (journalPairs m (m 9) cs) m) opened m (m 9) cs h
+          (λ k g d. (same (targetWord k) (omega arith) (omega arith), same (oldWord k) (omega arith) (omega arith)))
+          (logged-pairs m m (m 9) cs h (omega arith))
         where
-          same : (w : ℕ) → (w ≡ 9 → ⊥) → opened w ≡ over (journalPairs m (m 9) cs) (over s m) w
-          same w n = over-other 9 e (over first m) w n ∙ ap (λ (z : Mem). z w) (over-both (journalPairs m (m 9) cs) s m)
+          same : (w : ℕ) → (w ≡ 9 → ⊥) → w < 64 → opened w ≡ over (journalPairs m (m 9) cs) m w
+          same w n l =
+              over-other 9 e (over first m) w n ∙ ap (λ (z : Mem). z w) (over-both s (journalPairs m (m 9) cs) m)
+              ∙ over-none s (over (journalPairs m (m 9) cs) m) w (only-not (o .harmless) w (λ x q. omega arith))
 
       opened-targets : openTargets opened ≡ targetsOf cs
       unfolding openTargets openPositions
@@ -293,8 +286,9 @@ module _ (P N : ℕ) (Dead : Mem → ℕ → Type 0)
           by-lt w 64 (λ h. inr (page0-dead _ w h))
           (λ h. inl (over-other 8 e changed w (omega arith)
           ∙ over-same (targets cs) opened (over s m) w (over-other 9 e (over first m) w (omega arith)
-          ∙ ap (λ (z : Mem). z w) (over-both (journalPairs m (m 9) cs) s m)
-          ∙ over-none (journalPairs m (m 9) cs) (over s m) w (pairs-outside m (m 9) cs w (journal .enqueue) (λ a b. omega arith)))))
+          ∙ ap (λ (z : Mem). z w) (over-both s (journalPairs m (m 9) cs) m)
+          ∙ over-same s (over (journalPairs m (m 9) cs) m) m w
+          (over-none (journalPairs m (m 9) cs) m w (pairs-outside m (m 9) cs w (journal .enqueue) (λ a b. omega arith))))))
 
       closed-shows : Shows P N M closed
       closed-shows =
@@ -329,7 +323,7 @@ module _ (P N : ℕ) (Dead : Mem → ℕ → Type 0)
             fits = (first-fits, (word-fits 9 (omega arith) (omega arith), (fits-targets s cs M o, (word-fits 8 (omega arith) (omega arith), tt))));
           }
 
-    pub commit-safe : (s : Stores) (c : Change) (cs : List Change) (M : FileMap) → Owed P N Dead m s (c ∷ cs) M → Sound P N m (commit m s c cs) M
+    pub commit-safe : (s : Stores) (c : Change) (cs : List Change) (M : FileMap) → Owed P N Dead m s (c ∷ cs) M → Sound P N m (commit m s (c ∷ cs)) M
     unfolding commit
     commit-safe s c [] M o = one-safe s c M o
     commit-safe s c (d ∷ cs) M o = together-safe s (c ∷ d ∷ cs) M o
@@ -397,8 +391,8 @@ module _ (P N : ℕ) (Dead : Mem → ℕ → Type 0)
         let y : view m w ≡ x = cc in
         (omega arith, omega arith, rw y at v)
 
-    pub recover-safe : Sound P N m (recoverGroups m) R
-    unfolding recoverGroups
+    pub recover-safe : Sound P N m (actionGroups (view m) P N (recoverAction m)) R
+    unfolding actionGroups recoverAction allPrepared allChanges commit commitOne both
     recover-safe =
         let b = sizes-parts P N sizes in
         let j = journal-parts m N was-ok in

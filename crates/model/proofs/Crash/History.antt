@@ -1,13 +1,6 @@
 -- From one call to a whole history: where each call's groups are sound, every event leaves an accepted volume with the map that is demanded.
 -- By induction over the events; what is kept from one to the next is that the volume is accepted, its journal open or closed, and made of bytes.
-use mathlib.Core.Path.{_≡_, refl, _∙_, ap}
-use mathlib.Core.Logic.{_⊎_, ⊎-elim, ⊎-map}
-use Prim.Native.Nat.{ℕ, _*_, _^_, _≤_, _<_}
-use mathlib.Core.Bool.{true, false, _&&_}
-use mathlib.Core.List.{List, [], _∷_}
-use native.Mathlib.Omega.{arith}
-use lib.ListN.{length}
-use borrow.Author.Tests.{le-ltb}
+use Rattle.model.proofs.Prelude.{_≡_, refl, _∙_, ap, _⊎_, ⊎-elim, ⊎-map, ℕ, _*_, _^_, _≤_, _<_, true, false, _&&_, List, [], _∷_, arith, length, le-ltb}
 use Rattle.model.specs.Words.{Mem, word}
 use Rattle.model.specs.Layout.{sizesOk, root, listWords}
 use Rattle.model.specs.Stores.{Stores, storeList}
@@ -16,7 +9,7 @@ use Rattle.model.specs.Accept.{viewOk, accepted}
 use Rattle.model.specs.FileMap.{mapOf, mapAfter, Call, create, link, unlink, rename, write, setSize, clean, recover}
 use Rattle.model.specs.Power.{Power, held, cut, leaves}
 use Rattle.model.specs.Answer.{Answer, refused, done, Checks, firstRefusal}
-use Rattle.model.specs.Calls.{createChecks, createGroups, linkChecks, linkGroups, unlinkChecks, unlinkGroups, renameChecks, renameGroups, writeChecks, writeGroups, sizeChecks, sizeGroups, cleanChecks, cleanGroups, recoverGroups, checks, groups}
+use Rattle.model.specs.Calls.{Action, actionChecks, actionGroups, roomChecks, lacksRoom, createAction, linkAction, unlinkAction, renameAction, writeAction, sizeAction, cleanAction, recoverAction, action, checks, groups}
 use Rattle.model.specs.Public.{isVolume, isAccepted, needsClosed, volumeChecks, callChecks, fills}
 use Rattle.model.specs.Claim.{Bytes, CallBytes, Event, History, HistoryBytes, answerTo, landing, volumeAfter, mapIn, Demanded, Kept, ThirdDemand}
 use Rattle.model.proofs.Tests.{by-bool, ands}
@@ -42,18 +35,18 @@ SafeCall c =
     (P N : ℕ) (m : Mem) → sizesOk P N ≡ true → accepted m P N ≡ true → ((w : ℕ) → m w < 2 ^ 64) → CallBytes c
     → needsClosed c && isOpen m ≡ false → Passed (checks m P N c) → Sound P N m (groups m P N c) (mapAfter N c (mapOf (view m) P N))
 
--- The same of a call that wants a closed journal, with its checks ts and its groups gs: the memory is its own view.
-abbrev pub Duty : ℕ → ℕ → Mem → Call → Checks → List Stores → Type 0
-Duty P N m c ts gs = CallBytes c → Passed ts → Sound P N m gs (mapAfter N c (mapOf m P N))
+-- The same of a call that wants a closed journal, with its action a: the memory is its own view.
+abbrev pub Duty : ℕ → ℕ → Mem → Call → Action → Type 0
+Duty P N m c a = CallBytes c → Passed (actionChecks m P N a) → Sound P N m (actionGroups m P N a) (mapAfter N c (mapOf m P N))
 
 pub record Duties (P N : ℕ) (m : Mem) : Type 0 where
-  pub create-duty : (n : List ℕ) → Duty P N m (create n) (createChecks m P N root n) (createGroups m P N root n)
-  pub link-duty : (a b : List ℕ) → Duty P N m (link a b) (linkChecks m P N root a b) (linkGroups m P N root a b)
-  pub unlink-duty : (n : List ℕ) → Duty P N m (unlink n) (unlinkChecks m P N root n) (unlinkGroups m P N root n)
-  pub rename-duty : (a b : List ℕ) → Duty P N m (rename a b) (renameChecks m P N root a b) (renameGroups m P N root a b)
-  pub write-duty : (k o : ℕ) (bs : List ℕ) → Duty P N m (write k o bs) (writeChecks m P N k o bs) (writeGroups m P N k o bs)
-  pub size-duty : (k s : ℕ) → Duty P N m (setSize k s) (sizeChecks m P N k s) (sizeGroups m P N k s)
-  pub clean-duty : (k : ℕ) → Duty P N m (clean k) (cleanChecks m P N k) (cleanGroups m P N k)
+  pub create-duty : (n : List ℕ) → Duty P N m (create n) (createAction m P N root n)
+  pub link-duty : (a b : List ℕ) → Duty P N m (link a b) (linkAction m P N root a b)
+  pub unlink-duty : (n : List ℕ) → Duty P N m (unlink n) (unlinkAction m P N root n)
+  pub rename-duty : (a b : List ℕ) → Duty P N m (rename a b) (renameAction m P N root a b)
+  pub write-duty : (k o : ℕ) (bs : List ℕ) → Duty P N m (write k o bs) (writeAction m P N k o bs)
+  pub size-duty : (k s : ℕ) → Duty P N m (setSize k s) (sizeAction m P N k s)
+  pub clean-duty : (k : ℕ) → Duty P N m (clean k) (cleanAction m P N k)
 
 module _ (Dead : ℕ → ℕ → Mem → ℕ → Type 0)
     (frame : (P N : ℕ) → sizesOk P N ≡ true → (u u′ : Mem) → viewOk u P N ≡ true → ((w : ℕ) → (u′ w ≡ u w) ⊎ Dead P N u w)
@@ -64,7 +57,7 @@ module _ (Dead : ℕ → ℕ → Mem → ℕ → Type 0)
   owed P N m s a w o = duties P N m (record { sizes = s; ok = a; closed = o; words = w })
 
   pub calls-safe : (c : Call) → SafeCall c
-  unfolding checks groups mapAfter
+  unfolding checks groups action mapAfter
   calls-safe (create n) P N m s a w b o p = rw (closed-view m o) (owed P N m s a w o .create-duty n b (rw (closed-view m o) at p))
   calls-safe (link x y) P N m s a w b o p = rw (closed-view m o) (owed P N m s a w o .link-duty x y b (rw (closed-view m o) at p))
   calls-safe (unlink n) P N m s a w b o p = rw (closed-view m o) (owed P N m s a w o .unlink-duty n b (rw (closed-view m o) at p))
@@ -160,10 +153,15 @@ module _ (safe : (c : Call) → SafeCall c) where
   pub third-demand : ThirdDemand 8
   third-demand v b a o es n = history-kept v b a es n
 
--- Recover on an accepted volume is done, whatever its journal: it has no check of its own.
-pub recover-done : (v : List ℕ) (l : ℕ) → isAccepted v ≡ true → listWords ≤ l
-    → fills (length v) (word v) l recover ≡ done (storeList (64 * word v 0) (recoverGroups (word v)))
-unfolding isAccepted fills callChecks volumeChecks checks groups
-recover-done v l a h =
+-- Recover has no check of its own, so that on an accepted volume it is done, whatever the journal.
+recover-passes : {A : Type 0} (m : Mem) (P N : ℕ) (x : Answer A) → firstRefusal (checks m P N recover) x ≡ x
+unfolding checks action actionChecks recoverAction roomChecks lacksRoom
+recover-passes m P N x = by-bool (isOpen m) (λ e. rw e) (λ e. rw e)
+
+pub recover-done : (v : List ℕ) (n : ℕ) → isAccepted v ≡ true → listWords ≤ n
+    → fills (length v) (word v) n recover ≡ done (storeList (64 * word v 0) (groups (word v) (word v 0) (word v 1) recover))
+unfolding isAccepted fills callChecks volumeChecks
+recover-done v n a h =
     let is-volume : isVolume (length v) (word v) ≡ true = search ands in
-    let acc : accepted (word v) (word v 0) (word v 1) ≡ true = search ands in rw (le-ltb l listWords h, is-volume, acc)
+    let acc : accepted (word v) (word v 0) (word v 1) ≡ true = search ands in
+    rw (le-ltb n listWords h, is-volume, acc) (recover-passes (word v) (word v 0) (word v 1) _)

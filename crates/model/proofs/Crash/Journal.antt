@@ -1,13 +1,5 @@
 -- Laws of the journal: what its open entries say, and the view that they make. By induction over the positions.
-use mathlib.Core.Path.{_≡_, refl, sym, _∙_, fun-ext}
-use Prim.Native.Nat.{ℕ, zero, suc, _+_, _*_, _^_, _≤_, _<_}
-use mathlib.Core.Bool.{true, false, cond}
-use mathlib.Core.List.{List, [], _∷_, map}
-use mathlib.Core.Option.{none, some}
-use native.Mathlib.Omega.{arith}
-use lib.ListN.{length}
-use lib.Dec.{eqb}
-use borrow.Author.Tests.{ltb-true, ltb-false, leb-true, eqb-true, eqb-false, lt-ltb, le-ltb, le-leb}
+use Rattle.model.proofs.Prelude.{_≡_, refl, sym, _∙_, fun-ext, ℕ, zero, suc, _+_, _*_, _^_, _≤_, _<_, true, false, cond, List, [], _∷_, map, none, some, arith, length, eqb, ltb-true, ltb-false, leb-true, eqb-true, eqb-false, lt-ltb, le-ltb, le-leb}
 use Rattle.model.specs.Lists.{all, has, distinct}
 use Rattle.model.specs.Words.{Mem}
 use Rattle.model.specs.Stores.{Stores, oneWord, both, over}

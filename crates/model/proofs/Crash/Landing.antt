@@ -1,16 +1,6 @@
 -- From bytes to memories: what the power leaves of a store list, word by word, is what lands of its groups, store by store.
 -- A group's words ascend below the fence's index, so a list's fences are the groups' ends; then by induction over the groups.
-use mathlib.Core.Path.{_≡_, refl, sym, _∙_, ap, fun-ext}
-use mathlib.Core.Logic.{_⊎_, inl, inr, ⊎-elim}
-use Prim.Native.Nat.{ℕ, zero, suc, _+_, _-_, _*_, _/_, _%_, _^_, _≤_, _<_}
-use mathlib.Core.Bool.{Bool, true, cond}
-use mathlib.Core.List.{List, [], _∷_, _++_}
-use mathlib.Core.Option.{Option, none, some}
-use native.Mathlib.Omega.{arith}
-use lib.ListN.{length, getD, length-append}
-use lib.Seq.{take-append-seam, getD-append-seam, getD-append-add}
-use lib.Dec.{eqb}
-use borrow.Author.Tests.{leb-true, eqb-true, eq-eqb, ne-eqb, lt-ltb, le-ltb}
+use Rattle.model.proofs.Prelude.{_≡_, refl, sym, _∙_, ap, fun-ext, _⊎_, inl, inr, ⊎-elim, ℕ, zero, suc, _+_, _-_, _*_, _/_, _%_, _^_, _≤_, _<_, Bool, true, cond, List, [], _∷_, _++_, Option, none, some, arith, length, getD, length-append, take-append-seam, getD-append-seam, getD-append-add, eqb, leb-true, eqb-true, eq-eqb, ne-eqb, lt-ltb, le-ltb}
 use Rattle.model.specs.Words.{Mem, word, putWord}
 use Rattle.model.specs.Layout.{sizesOk}
 use Rattle.model.specs.Stores.{Stores, over, landed, pairOf, listed, fence, storeList, carried}

@@ -1,12 +1,5 @@
 -- Laws of stores: a memory after a group, a part of a group, and what can be said of the words that a group stores. By a look at each word.
-use mathlib.Core.Path.{_≡_, refl, sym, _∙_, fun-ext}
-use mathlib.Core.Logic.{_⊎_, inl, inr, ⊎-elim}
-use Prim.Native.Nat.{ℕ, _+_, _-_, _≤_, _<_}
-use mathlib.Core.Bool.{Bool, true, cond, _&&_}
-use mathlib.Core.Option.{Option, none, some}
-use native.Mathlib.Omega.{arith}
-use lib.Dec.{leb, ltb, eqb}
-use borrow.Author.Tests.{ltb-true, leb-true, eqb-true, eq-eqb, ne-eqb}
+use Rattle.model.proofs.Prelude.{_≡_, refl, sym, _∙_, fun-ext, _⊎_, inl, inr, ⊎-elim, ℕ, _+_, _-_, _≤_, _<_, Bool, true, cond, _&&_, Option, none, some, arith, leb, ltb, eqb, ltb-true, leb-true, eqb-true, eq-eqb, ne-eqb}
 use Rattle.model.specs.Lists.{orElse}
 use Rattle.model.specs.Words.{Mem}
 use Rattle.model.specs.Stores.{Stores, oneWord, run, firstOf, both, onlyIf, over}

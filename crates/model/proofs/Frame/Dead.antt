@@ -1,22 +1,17 @@
 -- Dead words are those that no reading of a view looks at: where only such words differ, every valid inode agrees, so the view is fine and reads the same.
-use mathlib.Core.Path.{_≡_, sym, _∙_}
-use mathlib.Core.Logic.{_⊎_, ⊎-elim}
-use Prim.Native.Nat.{ℕ, _+_, _*_, _/_, _%_, _≤_, _<_}
-use mathlib.Core.Bool.{true, false}
-use native.Mathlib.Omega.{arith}
-use borrow.Author.Tests.{eqb-true, ne-eqb}
+use Rattle.model.proofs.Prelude.{_≡_, sym, _∙_, _⊎_, ⊎-elim, ℕ, _+_, _*_, _/_, _%_, _≤_, _<_, true, false, arith, eqb-true, ne-eqb}
 use Rattle.model.specs.Lists.{has, count}
 use Rattle.model.specs.Words.{Mem}
-use Rattle.model.specs.Layout.{sizesOk, validWord, headWord, tailWord, inPages, root, filePages}
+use Rattle.model.specs.Layout.{sizesOk, validWord, headWord, tailWord, inPages, filePages}
 use Rattle.model.specs.Log.{pages}
-use Rattle.model.specs.State.{fileOf, bytesOf, namesOf}
-use Rattle.model.specs.Accept.{isValid, isFile, usesBy, uses, free, viewOk}
+use Rattle.model.specs.State.{fileOf}
+use Rattle.model.specs.Accept.{isValid, usesBy, uses, free, viewOk}
 use Rattle.model.specs.FileMap.{mapOf}
 use Rattle.model.proofs.Tests.{by-eq, clash, ands}
 use Rattle.model.proofs.Lists.{sumBelow-one, sumBelow-two, has-count}
 use Rattle.model.proofs.Frame.Placed.{sizes-whole, in-bounds, mapped-at, SamePages}
-use Rattle.model.proofs.Frame.Inode.{page-in, tail-page, mapped-in, Agree, same-file, same-bytes}
-use Rattle.model.proofs.Frame.View.{file-is, log-ok, once, same-uses, same-root, same-viewOk, same-map}
+use Rattle.model.proofs.Frame.Inode.{page-in, tail-page, mapped-in, Agree}
+use Rattle.model.proofs.Frame.View.{log-ok, once, same-uses, same-viewOk, same-map}
 
 pub data Dead (u : Mem) (P N w : ℕ) : Type 0 where
   -- the header and the journal
@@ -120,13 +115,3 @@ module _ (P N : ℕ) (s : sizesOk P N ≡ true) (u u′ : Mem) (ok : viewOk u P 
   frame =
       let g = sizes-whole P N s .1 in
       (same-viewOk u P N ok u′ same-valid agrees g ∙ ok, same-map u P N ok u′ same-valid agrees g, same-uses u P N ok u′ same-valid agrees)
-
-  pub frame-names : namesOf u′ P N root ≡ namesOf u P N root
-  frame-names = same-root u P N ok u′ same-valid agrees (sizes-whole P N s .1)
-
-  module _ (k : ℕ) (l : k < N) (f : isFile u k ≡ true) where
-    pub frame-file : fileOf u′ P N k ≡ fileOf u P N k
-    frame-file = let v = file-is u k f .1 in same-file u u′ P N k (log-ok u P N ok k l v) (agrees k l v)
-
-    pub frame-bytes : bytesOf u′ (fileOf u′ P N k) ≡ bytesOf u (fileOf u P N k)
-    frame-bytes = let g = file-is u k f in same-bytes u u′ P N k (log-ok u P N ok k l (g .1)) (agrees k l (g .1)) (g .0)

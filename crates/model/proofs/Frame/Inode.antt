@@ -1,12 +1,5 @@
 -- One inode: what its log and its file are made of, and that they read the same in a memory with the same words there.
-use mathlib.Core.Path.{_≡_}
-use mathlib.Core.Logic.{⊎-elim}
-use Prim.Native.Nat.{ℕ, _/_, _%_, _≤_, _<_}
-use mathlib.Core.Bool.{true}
-use mathlib.Core.Option.{some}
-use native.Mathlib.Omega.{arith}
-use lib.ListN.{length, getD}
-use borrow.Author.Tests.{eq-eqb, ne-eqb}
+use Rattle.model.proofs.Prelude.{_≡_, ⊎-elim, ℕ, _/_, _%_, _≤_, _<_, true, some, arith, length, getD, eq-eqb, ne-eqb}
 use Rattle.model.specs.Lists.{all, has}
 use Rattle.model.specs.Words.{Mem}
 use Rattle.model.specs.Layout.{validWord, headWord, tailWord, inPages, filePages}

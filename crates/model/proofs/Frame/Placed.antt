@@ -1,13 +1,5 @@
 -- What the checks of sizes and entries give, entry by entry: a file's data pages are pages of the volume, and names lead to inodes.
-use mathlib.Core.Path.{_≡_, refl}
-use mathlib.Core.Logic.{_⊎_, inl, inr}
-use Prim.Native.Nat.{ℕ, _+_, _-_, _*_, _/_, _%_, _≤_, _<_}
-use mathlib.Core.Bool.{Bool, true}
-use mathlib.Core.List.{List, [], _∷_}
-use native.Mathlib.Omega.{arith}
-use lib.ListN.{take}
-use lib.Dec.{leb, ltb, eqb}
-use borrow.Author.Tests.{eqb-true, ltb-true, leb-true, lt-ltb, ne-eqb}
+use Rattle.model.proofs.Prelude.{_≡_, refl, _⊎_, inl, inr, ℕ, _+_, _-_, _*_, _/_, _%_, _≤_, _<_, Bool, true, List, [], _∷_, arith, take, leb, ltb, eqb, eqb-true, ltb-true, leb-true, lt-ltb, ne-eqb}
 use Rattle.model.specs.Lists.{bit, all, foldl}
 use Rattle.model.specs.Words.{Mem, byteAt}
 use Rattle.model.specs.Layout.{sizesOk, inPages, filePages}

@@ -1,16 +1,10 @@
 -- A whole view: its checks as parts and back, and that it reads the same where every valid inode does.
-use mathlib.Core.Path.{_≡_, refl, ap}
-use Prim.Native.Nat.{ℕ, _≤_, _<_}
-use mathlib.Core.Bool.{Bool, true, _&&_}
-use native.Mathlib.Omega.{arith}
-use lib.ListN.{length}
-use lib.Dec.{leb, ltb}
-use borrow.Author.Tests.{eq-eqb, ne-eqb, eqb-false, ltb-true, leb-true, le-leb, not-true}
+use Rattle.model.proofs.Prelude.{_≡_, refl, ap, ℕ, _≤_, _<_, Bool, true, _&&_, arith, length, leb, ltb, eq-eqb, ne-eqb, eqb-false, ltb-true, leb-true, le-leb, not-true}
 use Rattle.model.specs.Lists.{all}
 use Rattle.model.specs.Words.{Mem}
 use Rattle.model.specs.Layout.{validWord, inPages, root, mostNames}
 use Rattle.model.specs.State.{fileOf, namesOf, inodes}
-use Rattle.model.specs.Accept.{isValid, isFile, usesBy, uses, free, freeCount, validOk, logOk, namesOk, servesOnce, endOk, inodeOk, viewOk}
+use Rattle.model.specs.Accept.{isValid, isFile, usesBy, uses, validOk, logOk, namesOk, servesOnce, endOk, inodeOk, viewOk}
 use Rattle.model.specs.FileMap.{mapOf}
 use Rattle.model.proofs.Tests.{by-bool, by-eq, ands}
 use Rattle.model.proofs.Lists.{allBelow-at, allBelow-by, allBelow-same, sumBelow-same}
@@ -89,14 +83,6 @@ module _ (u : Mem) (P N : ℕ) (ok : viewOk u P N ≡ true) where
     pub same-uses : (p : ℕ) → uses u′ P N p ≡ uses u P N p
     unfolding uses
     same-uses p = sumBelow-same N (usesBy u′ P N p) (usesBy u P N p) (usesBy-at p)
-
-    pub same-free : (p : ℕ) → free u′ P N p ≡ free u P N p
-    unfolding free
-    same-free p = rw (same-uses p)
-
-    pub same-freeCount : freeCount u′ P N ≡ freeCount u P N
-    unfolding freeCount
-    same-freeCount = simp same-free
 
     inodeOk-at : (k : ℕ) → k < N → inodeOk u′ P N k ≡ inodeOk u P N k
     unfolding inodeOk validOk

@@ -1,30 +1,22 @@
 -- What a call needs to know of a log that it continues: it reads as before and then as the new entries, whatever was stored outside of it.
 -- The new entries leave the log's live words alone, so this is the law of Extend.
-use mathlib.Core.Path.{_≡_}
-use Prim.Native.Nat.{ℕ, _+_, _*_, _/_, _%_, _<_}
-use mathlib.Core.Bool.{true, cond}
-use mathlib.Core.List.{List, [], _++_, map}
-use mathlib.Core.Option.{none}
-use native.Mathlib.Omega.{arith}
-use lib.ListN.{length, getD}
-use lib.Dec.{eqb}
-use borrow.Author.Tests.{ne-eqb}
+use Rattle.model.proofs.Prelude.{_≡_, ℕ, _+_, _*_, _/_, _%_, _<_, true, cond, List, [], _++_, map, none, arith, ne-eqb}
 use Rattle.model.specs.Words.{Mem}
 use Rattle.model.specs.Lists.{all, foldl, has, count}
-use Rattle.model.specs.Layout.{headWord, tailWord, isDirectory, inPages}
+use Rattle.model.specs.Layout.{tailWord, isDirectory, inPages}
 use Rattle.model.specs.Entry.{fileEntryOk, nameEntryOk}
-use Rattle.model.specs.Log.{pages, tailSlots, entries}
+use Rattle.model.specs.Log.{pages, entries}
 use Rattle.model.specs.State.{emptyFile, fileStep, fileOf, nameStep, namesOf}
 use Rattle.model.specs.Accept.{logOk}
-use Rattle.model.specs.Calls.{layEntries, tailAfter, tailPages}
+use Rattle.model.specs.Calls.{layEntries, tailPages}
 use Rattle.model.proofs.Tests.{by-bool, by-eq, not-true-false, ands}
 use Rattle.model.proofs.Lists.{count-append, all-append, foldl-append}
 use Rattle.model.proofs.Log.Chain.{chain-last}
 use Rattle.model.proofs.Log.Decode.{decode}
 use Rattle.model.proofs.Log.Pages.{Reads, log-chain}
 use Rattle.model.proofs.Log.Distinct.{inside-at}
-use Rattle.model.proofs.Log.Live.{lay-page, kept-live}
-use Rattle.model.proofs.Log.Extend.{Holds, Fits, append-log}
+use Rattle.model.proofs.Log.Live.{lay-page}
+use Rattle.model.proofs.Log.Extend.{Fits}
 
 -- nothing is laid in page 0 or the inode table
 pub lay-low : (P N : ℕ) (ps : List ℕ) (i : ℕ) (es : List (List ℕ)) → N % 8 ≡ 0 → all (inPages P N) ps ≡ true
@@ -41,15 +33,6 @@ module _ {u : Mem} {P N k : ℕ} {old ls : List ℕ} {es : List (List ℕ)} (f :
       (λ z. rw (tailPages, ne-eqb (u (tailWord k)) 0 z, all, chain-last u P N _ old (log-chain u P N k old (f .was) z .0) .1) (f .inside))
 
   module _ (u′ : Mem) where
-    -- the law: u′ holds what is laid, keeps the other words of the log's pages, and has the new head and tail
-    pub append-kept : Holds u′ (layEntries (tailPages u k ++ ls) (tailSlots u k) es)
-        → ((w : ℕ) → has (w / 64) old ≡ true → layEntries (tailPages u k ++ ls) (tailSlots u k) es w ≡ none → u′ w ≡ u w)
-        → u′ (headWord k) ≡ cond (eqb (u (tailWord k)) 0) (getD ls 0 0) (u (headWord k))
-        → u′ (tailWord k) ≡ tailAfter (tailPages u k ++ ls) (tailSlots u k) (length es)
-        → Reads u′ P N k (old ++ ls) (entries u P N k ++ map decode es)
-    append-kept holds kept head tail =
-        append-log (record { fits = f; live = kept-live u u′ P N k old ls es (f .was) (f .new) kept; holds = holds; head = head; tail = tail })
-
     -- what the longer log comes to
     module _ (now : Reads u′ P N k (old ++ ls) (entries u P N k ++ map decode es)) where
       pub file-after : fileOf u′ P N k ≡ foldl fileStep (fileOf u P N k) (map decode es)
@@ -65,10 +48,10 @@ module _ {u : Mem} {P N k : ℕ} {old ls : List ℕ} {es : List (List ℕ)} (f :
       count-after p = rw (pages, now .0, f .was) (count-append p old ls)
 
       pub ok-after : logOk u P N k ≡ true
-          → cond (isDirectory k) (all (nameEntryOk N) (map decode es)) (all (fileEntryOk P N) (map decode es)) ≡ true → logOk u′ P N k ≡ true
+          → cond (isDirectory u k) (all (nameEntryOk N) (map decode es)) (all (fileEntryOk P N) (map decode es)) ≡ true → logOk u′ P N k ≡ true
       unfolding logOk
       ok-after a b =
-          let g : cond (isDirectory k) (all (nameEntryOk N) (entries u P N k)) (all (fileEntryOk P N) (entries u P N k)) ≡ true = search ands in
-          rw (logOk, now .0, now .1) (by-bool (isDirectory k)
+          let g : cond (isDirectory u k) (all (nameEntryOk N) (entries u P N k)) (all (fileEntryOk P N) (entries u P N k)) ≡ true = search ands in
+          rw (logOk, now .0, now .1) (by-bool (isDirectory u k)
           (λ d. rw d (all-append (nameEntryOk N) (entries u P N k) (map decode es) (rw d at g) (rw d at b)))
           (λ d. rw d (all-append (fileEntryOk P N) (entries u P N k) (map decode es) (rw d at g) (rw d at b))))

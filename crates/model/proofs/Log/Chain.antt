@@ -1,13 +1,5 @@
 -- The pages of a log as a chain: what `walk` finds is a chain, a chain is walked, and a chain hung onto another is one. By induction over the pages.
-use mathlib.Core.Path.{_≡_, refl, sym, _∙_}
-use Prim.Native.Nat.{ℕ, zero, suc, _*_, _≤_, _<_}
-use mathlib.Core.Bool.{Bool, true, false, cond}
-use mathlib.Core.List.{List, [], _∷_, _++_, append-assoc}
-use mathlib.Core.Option.{Option, none, some}
-use native.Mathlib.Omega.{arith}
-use lib.ListN.{length, getD}
-use lib.Dec.{eqb}
-use borrow.Author.Tests.{eq-eqb, ne-eqb, eqb-true, eqb-false}
+use Rattle.model.proofs.Prelude.{_≡_, refl, sym, _∙_, ℕ, zero, suc, _*_, _≤_, _<_, Bool, true, false, cond, List, [], _∷_, _++_, append-assoc, Option, none, some, arith, length, getD, eqb, eq-eqb, ne-eqb, eqb-true, eqb-false}
 use Rattle.model.specs.Words.{Mem}
 use Rattle.model.specs.Lists.{all, has, distinct}
 use Rattle.model.specs.Layout.{footer, inPages}

@@ -1,13 +1,5 @@
 -- Entries as words, read back: an entry depends on its eight words alone, and the words of an entry mean that entry.
-use mathlib.Core.Path.{_≡_, refl, sym, _∙_, ap}
-use Prim.Native.Nat.{ℕ, zero, suc, _+_, _-_, _*_, _/_, _%_, _≤_, _<_}
-use mathlib.Core.Bool.{true}
-use mathlib.Core.List.{List}
-use native.Mathlib.Omega.{arith}
-use native.Mathlib.Nat.{add-zero, add-assoc}
-use lib.ListN.{length, getD, take, replicate, length-append, length-replicate, length-take, getD-replicate, List·getD-eq-default}
-use lib.Seq.{ext-getD, getD-take, take-append-seam, drop-append-seam}
-use borrow.Author.Tests.{lt-ltb, le-leb, leb-true}
+use Rattle.model.proofs.Prelude.{_≡_, refl, sym, _∙_, ap, ℕ, zero, suc, _+_, _-_, _*_, _/_, _%_, _≤_, _<_, true, List, arith, add-zero, add-assoc, length, getD, take, replicate, length-append, length-replicate, length-take, getD-replicate, List·getD-eq-default, ext-getD, getD-take, take-append-seam, drop-append-seam, lt-ltb, le-leb, leb-true}
 use Rattle.model.specs.Lists.{valuesFrom}
 use Rattle.model.specs.Words.{Mem, word, byteAt}
 use Rattle.model.specs.Entry.{Entry, writeEntry, sizeEntry, addEntry, removeEntry, padded, nameField, entryAt, nameOk, isZero, fieldOk, fileEntryOk, nameEntryOk, writeWords, sizeWords, nameWords, addWords, removeWords}

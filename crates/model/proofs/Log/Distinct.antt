@@ -1,17 +1,9 @@
 -- A log has no page twice: from a page on a chain goes only one way, so a page that stood twice would have two distances from the end.
-use mathlib.Core.Path.{_≡_, refl, sym, _∙_, ap}
-use mathlib.Core.Logic.{⊎-elim}
-use Prim.Native.Nat.{ℕ, suc, _+_, _/_, _≤_, _<_}
-use mathlib.Core.Bool.{true, false}
-use mathlib.Core.List.{List, [], _∷_, _++_}
-use mathlib.Core.Option.{Option, none, some}
-use native.Mathlib.Omega.{arith}
-use lib.ListN.{length}
-use borrow.Author.Tests.{ltb-true}
+use Rattle.model.proofs.Prelude.{_≡_, refl, sym, _∙_, ap, ⊎-elim, ℕ, suc, _+_, _/_, _≤_, _<_, true, false, List, [], _∷_, _++_, some, arith, length, ltb-true}
 use Rattle.model.specs.Words.{Mem}
-use Rattle.model.specs.Lists.{all, has, count, distinct, orElse}
+use Rattle.model.specs.Lists.{all, has, distinct}
 use Rattle.model.specs.Layout.{tailWord, inPages}
-use Rattle.model.specs.Log.{logPages, pages}
+use Rattle.model.specs.Log.{logPages}
 use Rattle.model.proofs.Tests.{by-bool, by-eq, no, ands}
 use Rattle.model.proofs.Lists.{has-cons, has-append, count-append, count-none, count-once, fit, all-has}
 use Rattle.model.proofs.Log.Chain.{Chain, chain-inside}
@@ -53,14 +45,6 @@ module _ (u : Mem) (P N k : ℕ) where
   log-inside ps e =
       by-eq (u (tailWord k)) 0 (λ z. rw (← (log-empty u P N k ps e z)))
       (λ z. chain-inside u P N (u (tailWord k) / 512) ps (log-chain u P N k ps e z .0))
-
-  pub pages-once : (p : ℕ) → count p (pages u P N k) ≤ 1
-  unfolding pages count
-  pages-once p = go (logPages u P N k) refl
-    where
-      go : (o : Option (List ℕ)) → logPages u P N k ≡ o → count p (orElse o []) ≤ 1
-      go none e = omega arith
-      go (some ps) e = count-once p ps (log-distinct ps e .0)
 
 -- Pages of the volume, each once, are at most P.
 

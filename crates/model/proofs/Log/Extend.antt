@@ -1,23 +1,13 @@
 -- A log that entries are laid into: written anew, or continued behind its tail, it reads as the old entries and the new ones.
 -- The pages laid into are linked, so they are a chain, and the slots up to the new tail hold the entries' words.
-use mathlib.Core.Path.{_≡_, refl, sym, _∙_, ap}
-use mathlib.Core.Logic.{⊎-elim}
-use Prim.Native.Nat.{ℕ, suc, _+_, _-_, _*_, _/_, _%_, _≤_, _<_}
-use mathlib.Core.Bool.{true, false, cond, _&&_}
-use mathlib.Core.List.{List, [], _∷_, _++_, map, map-append}
-use mathlib.Core.Option.{some}
-use native.Mathlib.Omega.{arith}
-use native.Mathlib.Nat.{add-zero, zero-add}
-use lib.ListN.{length, getD}
-use lib.Dec.{leb, eqb}
-use borrow.Author.Tests.{ne-eqb, eqb-true, leb-true}
+use Rattle.model.proofs.Prelude.{_≡_, refl, sym, _∙_, ap, ⊎-elim, ℕ, suc, _+_, _-_, _*_, _/_, _%_, _≤_, _<_, true, false, cond, _&&_, List, [], _∷_, _++_, map, map-append, some, arith, add-zero, zero-add, length, getD, leb, eqb, ne-eqb, eqb-true, leb-true}
 use Rattle.model.specs.Words.{Mem}
 use Rattle.model.specs.Stores.{Stores}
 use Rattle.model.specs.Lists.{allBelow, all, has, distinct}
 use Rattle.model.specs.Layout.{inPages, headWord, tailWord}
 use Rattle.model.specs.Entry.{Entry, entryAt}
 use Rattle.model.specs.Log.{tailOk, pagesOf, logPages, pages, tailSlots, slots, entryWords, entries}
-use Rattle.model.specs.Calls.{layEntries, tailAfter, pagesFor, tailPages, pagesNeeded}
+use Rattle.model.specs.Calls.{layEntries, tailAfter, pagesFor, tailPages}
 use Rattle.model.proofs.Tests.{by-eq, no, ands}
 use Rattle.model.proofs.Lists.{allBelow-at, all-has, has-getD, has-cons, apart, no-length}
 use Rattle.model.proofs.Log.Chain.{Chain, chain-then, linked-chain, chain-last, chain-words}
@@ -129,7 +119,7 @@ pub record Fits (u : Mem) (P N k : ℕ) (old ls : List ℕ) (es : List (List ℕ
   pub apart-ls : distinct ls ≡ true
   pub inside : all (inPages P N) ls ≡ true
   pub new : (x : ℕ) → has x old ≡ true → has x ls ≡ false
-  pub needed : length ls ≡ pagesNeeded u k (length es)
+  pub needed : length ls ≡ pagesFor (tailSlots u k + length es) - length (tailPages u k)
   pub some-es : 0 < length es
 
 -- u′ is u with es appended
@@ -146,10 +136,10 @@ module _ (u u′ : Mem) (P N k : ℕ) (ls : List ℕ) (es : List (List ℕ)) whe
 
   -- to an empty log
   on-empty : (old : List ℕ) → Appended u u′ P N k old ls es → u (tailWord k) ≡ 0 → Extended old
-  unfolding tailPages pagesNeeded
+  unfolding tailPages
   on-empty old a z =
       let f = a .fits in
-      let n : length ls ≡ pagesFor (0 + length es) - 0 = rw (pagesNeeded, tailPages, z) at (f .needed) in
+      let n : length ls ≡ pagesFor (0 + length es) - 0 = rw (tailPages, z) at (f .needed) in
       let anew : Anew u′ P N k ls es = record {
         apart-ps = f .apart-ls;
         inside = f .inside;
@@ -162,7 +152,7 @@ module _ (u u′ : Mem) (P N k : ℕ) (ls : List ℕ) (es : List (List ℕ)) whe
 
   -- behind the last page of a log
   on-tail : (old : List ℕ) → Appended u u′ P N k old ls es → (u (tailWord k) ≡ 0 → ⊥) → Extended old
-  unfolding entries pages tailPages pagesNeeded distinct all
+  unfolding entries pages tailPages distinct all
   on-tail [] a z = absurd (log-chain u P N k [] (a .fits .was) z .0)
   on-tail (p ∷ os) a z =
       let f = a .fits in
@@ -173,7 +163,7 @@ module _ (u u′ : Mem) (P N k : ℕ) (ls : List ℕ) (es : List (List ℕ)) whe
       let c = log-chain u P N k (p ∷ os) (f .was) z in
       let d = chain-last u P N q (p ∷ os) (c .0) in
       let s = tail-slots t (c .3) in
-      let n : length ls ≡ pagesFor (i + length es) - 1 = rw (pagesNeeded, tailPages, ne-eqb t 0 z) at (f .needed) in
+      let n : length ls ≡ pagesFor (i + length es) - 1 = rw (tailPages, ne-eqb t 0 z) at (f .needed) in
       let laid : Laid u′ P N q ls i es = record {
         apart-ps = rw (distinct, f .new q (d .0)) (f .apart-ls);
         inside = rw (all, d .1) (f .inside);

@@ -1,13 +1,5 @@
 -- An inode's log in memory: a log with a tail is a chain, a chain is such a log, and a log reads the same where its live words do.
-use mathlib.Core.Path.{_≡_, refl, sym, _∙_, subst}
-use Prim.Native.Nat.{ℕ, zero, suc, _+_, _*_, _/_, _%_, _≤_, _<_}
-use mathlib.Core.Bool.{true}
-use mathlib.Core.List.{List, [], _∷_, map, append-nil}
-use mathlib.Core.Option.{some}
-use mathlib.Core.Logic.{⊎-elim}
-use native.Mathlib.Omega.{arith}
-use lib.ListN.{length, getD}
-use borrow.Author.Tests.{ne-eqb}
+use Rattle.model.proofs.Prelude.{_≡_, refl, sym, _∙_, subst, ℕ, zero, suc, _+_, _*_, _/_, _%_, _≤_, _<_, true, List, [], _∷_, map, append-nil, some, ⊎-elim, arith, length, getD, ne-eqb}
 use Rattle.model.specs.Words.{Mem}
 use Rattle.model.specs.Lists.{has}
 use Rattle.model.specs.Layout.{headWord, tailWord, footer}

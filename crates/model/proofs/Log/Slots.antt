@@ -1,15 +1,6 @@
 -- The slots of a log's pages, and what layEntries lays into them.
-use mathlib.Core.Path.{_≡_, refl, sym, _∙_, ap}
-use Prim.Native.Nat.{ℕ, zero, suc, _+_, _-_, _*_, _/_, _%_, _≤_, _<_}
-use mathlib.Core.Bool.{true}
-use mathlib.Core.List.{List, [], _∷_, _++_}
-use mathlib.Core.Option.{some}
-use native.Mathlib.Omega.{arith}
-use native.Mathlib.Numerals.{add-one}
-use native.Mathlib.Nat.{add-zero, zero-add}
-use lib.ListN.{length, getD}
-use borrow.Author.Tests.{ne-eqb, lt-ltb, le-leb}
-use Rattle.model.specs.Lists.{all, distinct}
+use Rattle.model.proofs.Prelude.{_≡_, refl, sym, _∙_, ap, ℕ, zero, suc, _+_, _-_, _*_, _/_, _%_, _≤_, _<_, true, List, [], _∷_, _++_, some, arith, add-one, add-zero, zero-add, length, getD, ne-eqb, lt-ltb, le-leb}
+use Rattle.model.specs.Lists.{distinct}
 use Rattle.model.specs.Layout.{footer}
 use Rattle.model.specs.Log.{slots, entryWords}
 use Rattle.model.specs.Calls.{layEntries}

@@ -1,15 +1,5 @@
 -- The bytes of a file: their count and each of them, where the file's end is as accepted; and those of a list cut, lengthened or laid over.
-use mathlib.Core.Path.{_≡_, sym, _∙_, ap}
-use mathlib.Core.Logic.{⊎-elim}
-use Prim.Native.Nat.{ℕ, _+_, _-_, _*_, _/_, _%_, _≤_, _<_, max}
-use mathlib.Core.Bool.{true, false, cond, _||_, or-true}
-use mathlib.Core.List.{List, _++_, append-nil, append-assoc}
-use native.Mathlib.Omega.{arith}
-use native.Mathlib.Nat.{sub-self}
-use lib.ListN.{length, take, getD, replicate, length-append, length-take, length-drop, length-replicate, getD-replicate, List·getD-eq-default}
-use lib.Seq.{ext-getD, getD-take, getD-drop, take-length}
-use lib.Dec.{ltb, eqb}
-use borrow.Author.Tests.{leb-true, ltb-true, eqb-true, lt-ltb, le-ltb, eq-eqb, ne-eqb}
+use Rattle.model.proofs.Prelude.{_≡_, sym, _∙_, ap, ⊎-elim, ℕ, _+_, _-_, _*_, _/_, _%_, _≤_, _<_, max, true, false, cond, _||_, or-true, List, _++_, append-nil, append-assoc, arith, sub-self, length, take, getD, replicate, length-append, length-take, length-drop, length-replicate, getD-replicate, List·getD-eq-default, ext-getD, getD-take, getD-drop, take-length, ltb, eqb, leb-true, ltb-true, eqb-true, lt-ltb, le-ltb, eq-eqb, ne-eqb}
 use Rattle.model.specs.Lists.{allBelow, all, foldl}
 use Rattle.model.specs.Words.{Mem, byteAt}
 use Rattle.model.specs.Entry.{Entry, writeEntry, sizeEntry, addEntry, removeEntry, noEntry, fileEntryOk}

@@ -1,13 +1,5 @@
 -- The file map after each call, from the names, the valid words and the bytes of files after it: maps are the same if their names and each file are.
-use mathlib.Core.Path.{_≡_, refl, sym, _∙_, ap}
-use Prim.Native.Nat.{ℕ, _-_, _≤_, _<_}
-use mathlib.Core.Bool.{true, false, cond, _&&_, not, and-true, and-false}
-use mathlib.Core.List.{List}
-use mathlib.Core.Option.{none, some}
-use native.Mathlib.Omega.{arith}
-use lib.ListN.{length}
-use lib.Dec.{ltb, eqb}
-use borrow.Author.Tests.{eq-eqb, ne-eqb, ltb-true, lt-ltb, not-true}
+use Rattle.model.proofs.Prelude.{_≡_, refl, sym, _∙_, ap, ℕ, _-_, _≤_, _<_, true, false, cond, _&&_, not, and-true, and-false, List, none, some, arith, length, ltb, eqb, eq-eqb, ne-eqb, ltb-true, lt-ltb, not-true}
 use Rattle.model.specs.Lists.{valuesFrom, has, count, orElse}
 use Rattle.model.specs.Words.{Mem}
 use Rattle.model.specs.Layout.{validWord, root}

@@ -1,12 +1,5 @@
 -- The names that a directory's entries come to: each is a name of an accepted entry, and the entries that calls write come to the names they should.
-use mathlib.Core.Path.{_≡_, refl, sym, _∙_, ap}
-use Prim.Native.Nat.{ℕ, _+_, _≤_, _<_}
-use mathlib.Core.Bool.{true, false}
-use mathlib.Core.List.{List, [], _∷_, _++_, map, append-assoc, append-nil}
-use native.Mathlib.Omega.{arith}
-use lib.ListN.{take}
-use lib.Dec.{eqb}
-use borrow.Author.Tests.{leb-true, ltb-true}
+use Rattle.model.proofs.Prelude.{_≡_, refl, sym, _∙_, ap, ℕ, _+_, _≤_, _<_, true, false, List, [], _∷_, _++_, map, append-assoc, append-nil, arith, take, eqb, leb-true, ltb-true}
 use Rattle.model.specs.Lists.{all, filter, foldl, count}
 use Rattle.model.specs.Words.{Mem}
 use Rattle.model.specs.Layout.{isDirectory}
@@ -85,7 +78,7 @@ good-inode N (p ∷ ps) k g c =
     by-eq k (p .1) (λ e. rw e (g .0 .first, g .0 .below)) (λ e. let b = bit-other k (p .1) e in good-inode N ps k (g .1) (omega arith))
 
 -- the names of a directory whose log is accepted
-module _ (u : Mem) (P N d : ℕ) (dir : isDirectory d ≡ true) (ok : logOk u P N d ≡ true) where
+module _ (u : Mem) (P N d : ℕ) (dir : isDirectory u d ≡ true) (ok : logOk u P N d ≡ true) where
   pub names-good : GoodNames N (namesOf u P N d)
   unfolding namesOf entries logOk
   names-good =

@@ -1,12 +1,6 @@
 -- Lists of names: what stands in a list, and in one with a name put in or taken out; where names are distinct, how long it is and how often it leads
 -- to an inode. By induction on the list.
-use mathlib.Core.Path.{_≡_, refl, sym, _∙_}
-use Prim.Native.Nat.{ℕ, _+_, _≤_}
-use mathlib.Core.Bool.{Bool, true, false, cond}
-use mathlib.Core.List.{List, [], _∷_, _++_, map-append}
-use native.Mathlib.Omega.{arith}
-use lib.ListN.{length, take, length-append}
-use lib.Dec.{eqb}
+use Rattle.model.proofs.Prelude.{_≡_, refl, sym, _∙_, ℕ, _+_, _≤_, Bool, true, false, cond, List, [], _∷_, _++_, map-append, arith, length, take, length-append, eqb}
 use Rattle.model.specs.Lists.{bit, filter, foldl, count}
 use Rattle.model.specs.Entry.{Entry, writeEntry, sizeEntry, addEntry, removeEntry, noEntry}
 use Rattle.model.specs.State.{Names, isNamed, without, withName, nameStep, inodeOf, inodes}

@@ -1,13 +1,5 @@
 -- Names after a call are fine, if the valid words follow them: one is set with a name of a new inode, one is cleared with an inode's last name.
-use mathlib.Core.Path.{_≡_, refl, sym, _∙_}
-use Prim.Native.Nat.{ℕ, _≤_, _<_}
-use mathlib.Core.Bool.{Bool, true, false, cond, _&&_, not}
-use mathlib.Core.List.{List, [], _∷_}
-use mathlib.Core.Option.{none, some}
-use native.Mathlib.Omega.{arith}
-use lib.ListN.{length}
-use lib.Dec.{eqb}
-use borrow.Author.Tests.{eq-eqb, ne-eqb, eqb-true}
+use Rattle.model.proofs.Prelude.{_≡_, refl, sym, _∙_, ℕ, _≤_, _<_, Bool, true, false, cond, _&&_, not, List, [], _∷_, none, some, arith, length, eqb, eq-eqb, ne-eqb, eqb-true}
 use Rattle.model.specs.Lists.{count}
 use Rattle.model.specs.Words.{Mem}
 use Rattle.model.specs.Layout.{validWord}

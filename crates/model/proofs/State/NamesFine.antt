@@ -1,12 +1,5 @@
 -- Names that an accepted directory may hold, before and after each call: a name more or less of an inode, and the valid words that change with it.
-use mathlib.Core.Path.{_≡_, ap}
-use Prim.Native.Nat.{ℕ, _+_, _≤_, _<_}
-use mathlib.Core.Bool.{true, _||_, not}
-use mathlib.Core.List.{List}
-use native.Mathlib.Omega.{arith}
-use lib.ListN.{length}
-use lib.Dec.{eqb}
-use borrow.Author.Tests.{eq-eqb, ne-eqb, eqb-true, leb-true, le-leb}
+use Rattle.model.proofs.Prelude.{_≡_, ap, ℕ, _+_, _≤_, _<_, true, _||_, not, List, arith, length, eqb, eq-eqb, ne-eqb, eqb-true, leb-true, le-leb}
 use Rattle.model.specs.Lists.{bit, has, count}
 use Rattle.model.specs.Words.{Mem}
 use Rattle.model.specs.Layout.{validWord}

@@ -1,8 +1,5 @@
 -- The loop's invariant: the files among the inodes that are left are all marked if and only if all files are.
-use Prim.Native.Nat.{_≤_}
-use mathlib.Core.Path.{_≡_}
-use native.Mathlib.Omega.{arith}
-use borrow.Author.Needs.{needs}
+use Rattle.model.proofs.Prelude.{_≤_, _≡_, arith, needs}
 use Rattle.model.specs.Lists.{allBelow}
 use Rattle.model.specs.Words.{word}
 use Rattle.model.specs.Journal.{view}

@@ -1,5 +1,5 @@
 -- The directory and an inode that is not valid are no files; of another the mark decides.
-use native.Mathlib.Omega.{arith}
+use Rattle.model.proofs.Prelude.{arith}
 use Rattle.names.proofs.Inodes.{file-root, file-invalid, file-is}
 use Rattle.names.proofs.file_marked.Statement.{statement}
 use Rattle.names.proofs.file_marked.Tie as tie

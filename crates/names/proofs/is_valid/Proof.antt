@@ -1,5 +1,5 @@
 -- An inode past the table is none; of another the view of its valid word decides.
-use native.Mathlib.Omega.{arith}
+use Rattle.model.proofs.Prelude.{arith}
 use Rattle.names.proofs.Inodes.{valid-far, valid-is}
 use Rattle.names.proofs.is_valid.Statement.{statement}
 use Rattle.names.proofs.is_valid.Tie as tie
@@ -9,7 +9,6 @@ is-valid-spec =
     tie.close
     (tie.spec
     (λ c. search valid-far)
-    (λ c. omega arith)
-    (λ c. omega arith)
+    (λ c κs. omega arith)
     (λ c κs. omega arith)
     (λ c. search valid-is))

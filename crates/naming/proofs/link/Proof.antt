@@ -1,7 +1,8 @@
 -- The gate and the first checks refuse as the model does; what is left is the append.
-use native.Mathlib.Omega.{arith}
+use Rattle.model.proofs.Prelude.{needs}
+use denote.Ref.{now}
 use Rattle.gate.proofs.Gates.{gate-filled}
-use Rattle.naming.proofs.Calls.{gate-link-answer, gate-link-list, link-told-answer, link-told-list, closed-here, some-inodes, link-room, link-answer, link-list}
+use Rattle.naming.proofs.Calls.{gate-told, link-told, one-ready, add-long, some-inodes, link-comes}
 use Rattle.naming.proofs.link.Statement.{statement}
 use Rattle.naming.proofs.link.Tie as tie
 
@@ -11,15 +12,27 @@ link-spec =
     (tie.spec
     (λ c κs. search)
     (λ c. search)
-    (λ c. (search gate-link-answer, search gate-link-list))
+    (λ c. search gate-told)
     (λ c κs. search gate-filled)
     (λ c. search)
-    (λ c. (search link-told-answer, search link-told-list))
-    (λ c κs. omega arith)
+    (λ c. search link-told)
+    (λ c κs. search)
+    (λ c. search needs)
     (λ c κs.
     let b1 = c .before .before .before in
-    let put = b1 .put-add .ensures in
-    let b2 = b1 .before .before .before in
+    let o = b1 .add-words .ensures in
+    let b2 = b1 .before .before .before .before .before .before .before in
+    let e = b2 .gate .given .1 in
+    let b3 = b2 .before .before in
+    let g = b3 .filling .ensures in
+    let l = now (b3 .before .before .before .before .before .before .before .args .list) in
+    one-ready _ l _ _ _ g _ e _ _ _ _ o (add-long _ _) (some-inodes _ l _ _ _ g _ e))
+    (λ c. search)
+    (λ c.
+    let a = c .before .before .append-root .ensures in
+    let b1 = c .before .before .before .before .before .before in
+    let o = b1 .add-words .ensures in
+    let b2 = b1 .before .before in
     let j = b2 .found .given .1 in
     let b3 = b2 .before .before in
     let h = b3 .link-checks .ensures in
@@ -27,6 +40,4 @@ link-spec =
     let e = b4 .gate .given .1 in
     let b5 = b4 .before .before in
     let g = b5 .filling .ensures in
-    (search (closed-here, g, e), omega arith, search (some-inodes, g, e), search (link-room, g, e, h, j, put)))
-    (λ c. search)
-    (λ c. (search link-answer, search link-list)))
+    link-comes _ _ _ _ _ g _ e _ _ _ h _ j _ o _ _ a))

@@ -1,5 +1,5 @@
 -- An empty list ends in a fence by definition; of any other the pair before the end decides.
-use borrow.Author.Needs.{needs}
+use Rattle.model.proofs.Prelude.{needs}
 use Rattle.pairs.proofs.Pairs.{empty-ends, last-ends}
 use Rattle.pairs.proofs.ends_in_fence.Statement.{statement}
 use Rattle.pairs.proofs.ends_in_fence.Tie as tie

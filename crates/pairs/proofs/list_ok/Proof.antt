@@ -1,5 +1,5 @@
 -- The pairs decide, and then the last of them.
-use borrow.Author.Needs.{needs}
+use Rattle.model.proofs.Prelude.{needs}
 use Rattle.words.proofs.Cond.{ands}
 use Rattle.pairs.proofs.list_ok.Statement.{statement}
 use Rattle.pairs.proofs.list_ok.Tie as tie

@@ -1,8 +1,5 @@
 -- The loop's invariant: the pairs that are left are good if and only if all are.
-use Prim.Native.Nat.{_-_, _%_, _≤_}
-use mathlib.Core.Path.{_≡_}
-use borrow.Author.Needs.{needs}
-use lib.ListN.{length, drop}
+use Rattle.model.proofs.Prelude.{_-_, _%_, _≤_, _≡_, needs, length, drop}
 use Rattle.model.specs.Public.{pairsOk}
 use Rattle.pairs.proofs.Pairs.{pairs-not, pairs-next, pairs-end}
 use Rattle.pairs.proofs.pairs_ok.Statement.{statement}

@@ -1,5 +1,5 @@
 -- A fence stores nothing; any other pair is a word of the volume, and is stored there.
-use borrow.Author.Needs.{needs}
+use Rattle.model.proofs.Prelude.{needs}
 use Rattle.pairs.proofs.Pairs.{store-fits, fence-stored, word-stored}
 use Rattle.pairs.proofs.store_pair.Statement.{statement}
 use Rattle.pairs.proofs.store_pair.Tie as tie

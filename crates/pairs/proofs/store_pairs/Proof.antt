@@ -1,9 +1,5 @@
 -- The loop's invariant: the pairs that are left, carried out on what is there now, leave what all leave on what was there before.
-use Prim.Native.Nat.{_-_, _/_, _%_, _≤_}
-use mathlib.Core.Path.{_≡_}
-use mathlib.Core.Bool.{true}
-use borrow.Author.Needs.{needs}
-use lib.ListN.{length, drop}
+use Rattle.model.proofs.Prelude.{_-_, _/_, _%_, _≤_, _≡_, true, needs, length, drop}
 use Rattle.model.specs.Stores.{carried}
 use Rattle.model.specs.Public.{pairsOk}
 use Rattle.pairs.proofs.Pairs.{pair-here, pairs-left, carried-next, carried-end}

@@ -1,5 +1,5 @@
 -- The gate's answers are the first three checks, and the places that it left are those of the names that stand.
-use borrow.Author.Needs.{needs}
+use Rattle.model.proofs.Prelude.{needs}
 use Rattle.gate.proofs.Gates.{gate-filled}
 use Rattle.reading.proofs.Answers.{find-refused, find-bad, find-absent, find-there}
 use Rattle.reading.proofs.find.Statement.{statement}

@@ -1,6 +1,6 @@
 -- The gate's answers are the checks, and the marks that it left are those of the pages in use.
-use borrow.Author.Needs.{needs}
-use Rattle.gate.proofs.Gates.{gate-word-0, gate-word-1, gate-pages}
+use Rattle.model.proofs.Prelude.{needs}
+use Rattle.gate.proofs.Gates.{gate-word-1, gate-pages}
 use Rattle.reading.proofs.Answers.{free-refused, free-is}
 use Rattle.reading.proofs.free_count.Statement.{statement}
 use Rattle.reading.proofs.free_count.Tie as tie
@@ -12,7 +12,6 @@ free-count-spec =
     (λ c κs. search needs)
     (λ c. search needs)
     (λ c. search (free-refused, needs))
-    (λ c κs. search (gate-word-0, needs))
     (λ c κs. search (gate-word-1, needs))
     (λ c κs. search (gate-pages, needs))
     (λ c. search (free-is, needs)))

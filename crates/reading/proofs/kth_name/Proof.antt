@@ -1,5 +1,5 @@
 -- The gate's answers are the checks after the buffer's, and the k-th place that it left is that of the k-th name.
-use borrow.Author.Needs.{needs}
+use Rattle.model.proofs.Prelude.{needs}
 use Rattle.reading.proofs.Answers.{kth-refused, kth-short, kth-gate, kth-absent, kth-few, kth-place, kth-number, kth-laid}
 use Rattle.reading.proofs.kth_name.Statement.{statement}
 use Rattle.reading.proofs.kth_name.Tie as tie

@@ -1,5 +1,5 @@
 -- A refusal is that of the file's state; else the bytes are those of the file from the offset on.
-use borrow.Author.Needs.{needs}
+use Rattle.model.proofs.Prelude.{needs}
 use Rattle.state.proofs.Within.{state-small, state-within}
 use Rattle.reading.proofs.Answers.{read-refused, read-number, read-laid}
 use Rattle.reading.proofs.read.Statement.{statement}

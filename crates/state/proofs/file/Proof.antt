@@ -1,6 +1,6 @@
 -- Each answer is one law of proofs/Stating.antt.
-use borrow.Author.Needs.{needs}
-use Rattle.gate.proofs.Gates.{gate-word-0, gate-word-1, gate-ready, gate-readable}
+use Rattle.model.proofs.Prelude.{needs}
+use Rattle.gate.proofs.Gates.{gate-word-1, gate-ready, gate-readable}
 use Rattle.state.proofs.Stating.{state-refused, state-absent, file-below, file-above, good-log, state-there}
 use Rattle.state.proofs.file.Statement.{statement}
 use Rattle.state.proofs.file.Tie as tie
@@ -12,7 +12,6 @@ file-spec =
     (λ c κs. search needs)
     (λ c. search needs)
     (λ c. search (state-refused, needs))
-    (λ c κs. search (gate-word-0, needs))
     (λ c κs. search (gate-word-1, needs))
     (λ c κs. search (gate-readable, needs))
     (λ c. search (state-absent, needs))

@@ -1,7 +1,5 @@
 -- Two stores, one after the other, are the two words put in.
-use native.Mathlib.Omega.{arith}
-use lib.ListN.{length-set}
-use borrow.Author.Needs.{needs}
+use Rattle.model.proofs.Prelude.{arith, length-set, needs}
 use Rattle.stores.proofs.Emitting.{two-put}
 use Rattle.stores.proofs.pair.Statement.{statement}
 use Rattle.stores.proofs.pair.Tie as tie

@@ -1,5 +1,5 @@
 -- Each refusal is one case of the definition's checks; what is stored is what the definition carries out.
-use borrow.Author.Needs.{needs}
+use Rattle.model.proofs.Prelude.{needs}
 use Rattle.storing.proofs.Carrying.{part-length, part-even, good-pairs, carry-refused, carry-done}
 use Rattle.storing.proofs.Carrying.{no-volume, odd-count, long-count, bad-list, good-list}
 use Rattle.storing.proofs.carry_out.Statement.{statement}

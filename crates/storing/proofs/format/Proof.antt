@@ -1,5 +1,5 @@
 -- The sizes decide the answer; the zeros and then the header's words are the definition's.
-use borrow.Author.Needs.{needs}
+use Rattle.model.proofs.Prelude.{needs}
 use Rattle.storing.proofs.Formatting.{not-answer, not-volume, few-inodes, table-in, header-in, done-answer, done-volume}
 use Rattle.storing.proofs.format.Statement.{statement}
 use Rattle.storing.proofs.format.Tie as tie

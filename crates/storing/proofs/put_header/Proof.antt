@@ -1,5 +1,5 @@
 -- Four stores of a word, one after the other, are the definition's four.
-use borrow.Author.Needs.{needs}
+use Rattle.model.proofs.Prelude.{needs}
 use Rattle.storing.proofs.put_header.Statement.{statement}
 use Rattle.storing.proofs.put_header.Tie as tie
 
@@ -7,6 +7,7 @@ pub put-header-spec : {M : Type 1} → statement M
 put-header-spec =
     tie.close
     (tie.spec
+    (λ c κs. search needs)
     (λ c κs. search needs)
     (λ c κs. search needs)
     (λ c κs. search needs)

@@ -1,9 +1,5 @@
 -- The loop's invariant: the first i bytes are zeros, the others are as they were.
-use Prim.Native.Nat.{_-_, _≤_}
-use mathlib.Core.Path.{_≡_}
-use mathlib.Core.List.{_++_}
-use borrow.Author.Needs.{needs}
-use lib.ListN.{length, drop, replicate}
+use Rattle.model.proofs.Prelude.{_-_, _≤_, _≡_, _++_, needs, length, drop, replicate}
 use Rattle.storing.proofs.Formatting.{zero-turn, zero-end}
 use Rattle.storing.proofs.zero.Statement.{statement}
 use Rattle.storing.proofs.zero.Tie as tie

@@ -1,6 +1,5 @@
 -- Each answer is one law of proofs/Facts.antt: of a bad journal, of names that are not good, of a good directory.
-use native.Mathlib.Omega.{arith}
-use borrow.Author.Needs.{needs}
+use Rattle.model.proofs.Prelude.{arith, needs}
 use Rattle.survey.proofs.Facts.{volume-long, few-inodes, journal-ready, no-journal, some-inodes, directory-log, found, no-names}
 use Rattle.survey.proofs.judge.Statement.{statement}
 use Rattle.survey.proofs.judge.Tie as tie
@@ -9,7 +8,6 @@ pub judge-spec : {M : Type 1} → statement M
 judge-spec =
     tie.close
     (tie.spec
-    (λ c κs. omega (arith, volume-long))
     (λ c κs. omega (arith, volume-long))
     (λ c κs. (omega (arith, volume-long), search (few-inodes, needs)))
     (λ c. search (no-journal, needs))

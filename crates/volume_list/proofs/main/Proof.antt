@@ -1,5 +1,5 @@
 -- The text's first bytes, as many as were laid, are the listing.
-use borrow.Author.Needs.{needs}
+use Rattle.model.proofs.Prelude.{needs}
 use Rattle.volume_list.proofs.Front.{front-in, front-count, front-is}
 use Rattle.volume_list.proofs.main.Statement.{statement}
 use Rattle.volume_list.proofs.main.Tie as tie

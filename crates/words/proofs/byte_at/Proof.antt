@@ -1,7 +1,5 @@
 -- A byte of the memory that a slice makes is the slice's own byte.
-use borrow.Author.Needs.{needs}
-use mathlib.Core.Path.{sym}
-use native.Mathlib.Omega.{arith}
+use Rattle.model.proofs.Prelude.{needs, sym, arith}
 use Rattle.model.proofs.Words.{byte-word}
 use Rattle.words.proofs.byte_at.Statement.{statement}
 use Rattle.words.proofs.byte_at.Tie as tie

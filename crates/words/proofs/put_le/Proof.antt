@@ -1,5 +1,5 @@
 -- Eight stores of a byte, one after the other, are the definition's eight.
-use borrow.Author.Needs.{needs}
+use Rattle.model.proofs.Prelude.{needs}
 use Rattle.words.proofs.put_le.Statement.{statement}
 use Rattle.words.proofs.put_le.Tie as tie
 

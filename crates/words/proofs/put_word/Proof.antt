@@ -1,5 +1,5 @@
 -- What `put_le` stores at the word's first byte is the word, by definition.
-use borrow.Author.Needs.{needs}
+use Rattle.model.proofs.Prelude.{needs}
 use Rattle.model.specs.Words.{putWord}
 use Rattle.words.proofs.put_word.Statement.{statement}
 use Rattle.words.proofs.put_word.Tie as tie

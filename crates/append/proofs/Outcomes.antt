@@ -1,0 +1,77 @@
+-- For callers: what an append comes to is what a call's action comes to, where entries, data and words to commit are the call's.
+use Rattle.model.proofs.Prelude.{ℕ, _+_, _*_, _/_, _%_, _≤_, _<_, _≡_, refl, _∙_, ap, fun-ext, Bool, true, false, _&&_, not, List, [], _∷_, _++_, Option, none, some, arith, zero-add, eqb, length, drop, eq-eqb, ne-eqb, lt-ltb, le-ltb}
+use Rattle.model.specs.Lists.{indexOf}
+use Rattle.model.specs.Words.{word}
+use Rattle.model.specs.Layout.{validWord, headWord, tailWord}
+use Rattle.model.specs.Accept.{free}
+use Rattle.model.specs.Stores.{Stores, oneWord, noWords, both, onlyIf}
+use Rattle.model.specs.Answer.{done}
+use Rattle.model.specs.Calls as calls
+use Rattle.model.specs.Calls.{Change, layPages, lowestRun, runFrom, entriesOnly, dataPages, appended, oldPages, oldSlots, freshPages, freshLog, noRoom, prepared, newTail, ownChanges, pagesLeft, lacksRoom, allPrepared, allChanges, roomChecks, actionChecks, actionGroups}
+use Rattle.model.proofs.Tests.{by-lt}
+use Rattle.model.proofs.Lists.{length-values}
+use Rattle.stores.specs.Emitted.{Emitted}
+use Rattle.stores.specs.Added.{element}
+use Rattle.stores.proofs.Emitting.{emitted-parts}
+use Rattle.answer.specs.Comes.{Comes}
+use Rattle.answer.specs.declared.Answer.the-variants.{Number}
+use Rattle.entries.specs.Table.{entriesOf}
+use Rattle.append.specs.declared.Append.{Append}
+use Rattle.append.specs.Appended.{zeroed, alsoCommitted, asked, plain, outcome}
+
+-- entries and no data
+pub asked-only : (a : Append) (ws : List ℕ) → a .file ≡ 0 → a .size ≡ 0 → asked a ws [] ≡ entriesOnly (a .anew) (a .log) (entriesOf ws 0 (length ws / 8))
+unfolding asked entriesOnly element
+asked-only a ws e f = rw (e, f)
+
+and-false : (a : Bool) → a && false ≡ false
+and-false true = refl
+and-false false = refl
+
+-- an inode that becomes valid, one that is let go, and none
+module _ (a : Append) where
+  pub zeroed-new : (a .other ≡ 0 → ⊥) → a .valid ≡ 1 → zeroed a ≡ both (oneWord (headWord (a .other)) 0) (oneWord (tailWord (a .other)) 0)
+  unfolding zeroed onlyIf
+  zeroed-new e f = rw (ne-eqb (a .other) 0 e, ne-eqb (a .valid) 0 (omega arith))
+
+  pub zeroed-none : a .valid ≡ 0 → zeroed a ≡ noWords
+  unfolding zeroed onlyIf
+  zeroed-none f = fun-ext (λ w. rw (eq-eqb (a .valid) 0 f, and-false (not (eqb (a .other) 0))))
+
+  pub also-new : (a .other ≡ 0 → ⊥) → alsoCommitted a ≡ (validWord (a .other), a .valid) ∷ []
+  unfolding alsoCommitted
+  also-new e = rw (ne-eqb (a .other) 0 e)
+
+  pub also-nothing : a .other ≡ 0 → alsoCommitted a ≡ []
+  unfolding alsoCommitted
+  also-nothing e = rw (eq-eqb (a .other) 0 e)
+
+-- Data whose words are the same.
+
+run-long : (c : ℕ) (o : Option ℕ) → length (runFrom c o) ≤ c
+run-long c none = omega arith
+run-long c (some p) = omega (arith, length-values (λ i. i) p c)
+
+lay-same : (ps : List ℕ) (c : ℕ) (g h : ℕ → ℕ) → length ps ≤ c → ((j : ℕ) → j < 64 * c → g j ≡ h j) → layPages ps g ≡ layPages ps h
+unfolding layPages
+lay-same ps c g h l e =
+    fun-ext (λ w.
+    let j = indexOf (w / 64) ps in
+    by-lt j (length ps) (λ i. rw (lt-ltb j (length ps) i, e (64 * j + w % 64) (omega arith))) (λ i. rw (le-ltb j (length ps) i)))
+
+module _ (v : List ℕ) (k : ℕ) (b : Bool) (es : List (List ℕ)) (i c z : ℕ) (g h : ℕ → ℕ) (same : (j : ℕ) → j < 64 * c → g j ≡ h j) where
+  abbrev with-words : (ℕ → ℕ) → calls.Append
+  with-words w = record { log = k; anew = b; entries = es; file = i; count = c; words = w; size = z }
+
+  pub outcome-words : (s : Stores) (cs : List Change) → outcome v (plain (with-words g ∷ []) s cs) ≡ outcome v (plain (with-words h ∷ []) s cs)
+  unfolding outcome actionChecks actionGroups roomChecks lacksRoom allPrepared allChanges dataPages appended oldPages oldSlots freshPages freshLog noRoom prepared newTail ownChanges pagesLeft
+  outcome-words s cs =
+      let u = word v in
+      let f = free u (u 0) (u 1) in
+      rw (lay-same (runFrom c (lowestRun f (u 0) c)) c g h (run-long c (lowestRun f (u 0) c)) same)
+
+-- words that were put at the start of a list
+pub comes-words : {l : List ℕ} {z : ℕ} {xs o : List ℕ} → Emitted l 0 xs z o → z ≤ length l → Comes (done xs) l (Number z) o
+comes-words {l} {z} {xs} p h =
+    let e : z ≡ length xs = p .end ∙ zero-add (length xs) in
+    record { answer = ap (λ n. done (some n)) e; list = emitted-parts p (omega arith) ∙ ap (λ n. xs ++ drop n l) e }

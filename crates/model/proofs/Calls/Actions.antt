@@ -1,0 +1,90 @@
+-- An action with one append: what it checks, stores and commits is that of the append, and the action's own.
+use Rattle.model.proofs.Prelude.{_≡_, refl, fun-ext, ℕ, Bool, true, false, List, [], _∷_, _++_, append-nil, Option, none, some, arith, length, getD}
+use Rattle.model.specs.Words.{Mem}
+use Rattle.model.specs.Layout.{headWord, tailWord}
+use Rattle.model.specs.Lists.{valuesFrom, indexOf}
+use Rattle.model.specs.Stretches.{stretches}
+use Rattle.model.specs.Accept.{free}
+use Rattle.model.specs.FileMap.{FileMap}
+use Rattle.model.specs.Stores.{Stores, noWords, both, onlyIf}
+use Rattle.model.specs.Calls.{Change, Append, layEntries, layPages, tailAfter, pagesFor, commit, entriesOnly, stretchEntries, lowestRun, runFrom, dataPages, appended, oldPages, oldSlots, freshPages, freshLog, noRoom, prepared, newTail, ownChanges, lacksRoom, allPrepared, allChanges}
+use Rattle.model.proofs.Tests.{by-bool}
+use Rattle.model.proofs.Frame.Dead.{low, frame}
+use Rattle.model.proofs.Crash.Stores.{first-none}
+use Rattle.model.proofs.Crash.Commit.{Ready, Owed, Sound, commit-safe}
+use Rattle.model.proofs.Calls.Grown.{DeadIn}
+use Rattle.model.proofs.Calls.Stored.{changes-on}
+
+pub both-none : (s : Stores) → both s noWords ≡ s
+unfolding both
+both-none s = fun-ext (λ w. first-none (s w))
+
+module _ (u : Mem) (P : ℕ) (f : ℕ → Bool) (a : Append) where
+  pub one-room : lacksRoom u P f (a ∷ []) ≡ noRoom u P f a
+  unfolding lacksRoom
+  one-room = by-bool (noRoom u P f a) (λ e. rw e) (λ e. rw e)
+
+  pub one-prepared : allPrepared u P f (a ∷ []) ≡ prepared u P f a
+  unfolding allPrepared
+  one-prepared = both-none (prepared u P f a)
+
+  pub one-changes : allChanges u P f (a ∷ []) ≡ ownChanges u P f a
+  unfolding allChanges
+  one-changes = append-nil (ownChanges u P f a)
+
+-- entries and no data
+run-none : (o : Option ℕ) → runFrom 0 o ≡ []
+unfolding valuesFrom
+run-none none = refl
+run-none (some p) = refl
+
+pub no-data : (u : Mem) (P : ℕ) (f : ℕ → Bool) (b : Bool) (k : ℕ) (es : List (List ℕ)) → dataPages u P f (entriesOnly b k es) ≡ []
+unfolding dataPages entriesOnly
+no-data u P f b k es = run-none (lowestRun f P 0)
+
+pub only-entries : (u : Mem) (P : ℕ) (f : ℕ → Bool) (b : Bool) (k : ℕ) (es : List (List ℕ)) → appended u P f (entriesOnly b k es) ≡ es
+unfolding appended entriesOnly stretches stretchEntries
+only-entries u P f b k es = append-nil es
+
+-- A log written anew: its entries stand from the first slot of fresh pages on, and head and tail commit it.
+module _ (u : Mem) (P : ℕ) (f : ℕ → Bool) (k : ℕ) (es : List (List ℕ)) where
+  abbrev a : Append
+  a = entriesOnly true k es
+
+  abbrev ls : List ℕ
+  ls = freshLog u P f a
+
+  pub fresh-anew : freshPages u P f a ≡ pagesFor (length es)
+  unfolding freshPages oldPages oldSlots entriesOnly
+  fresh-anew = rw (only-entries u P f true k es) (omega arith)
+
+  own-prepared : prepared u P f a ≡ layEntries ls 0 es
+  unfolding prepared layPages oldPages oldSlots entriesOnly both onlyIf indexOf
+  own-prepared = rw (no-data u P f true k es, only-entries u P f true k es) (fun-ext (λ i. first-none (layEntries ls 0 es i)))
+
+  own-changes : ownChanges u P f a ≡ (headWord k, getD ls 0 0) ∷ (tailWord k, tailAfter ls 0 (length es)) ∷ []
+  unfolding ownChanges newTail oldPages oldSlots entriesOnly
+  own-changes = rw (only-entries u P f true k es)
+
+  pub anew-prepared : both (allPrepared u P f (a ∷ [])) noWords ≡ layEntries ls 0 es
+  anew-prepared = rw (one-prepared u P f a, both-none (prepared u P f a)) own-prepared
+
+  pub anew-changes : allChanges u P f (a ∷ []) ++ [] ≡ (headWord k, getD ls 0 0) ∷ (tailWord k, tailAfter ls 0 (length es)) ∷ []
+  anew-changes = rw (append-nil (allChanges u P f (a ∷ [])), one-changes u P f a) own-changes
+
+-- what is owed is enough
+module _ (P N : ℕ) (m : Mem) (r : Ready P N m) where
+  pub owed-sound : (s : Stores) (c : Change) (cs : List Change) (M : FileMap) → Owed P N (DeadIn P N) m s (c ∷ cs) M → Sound P N m (commit m s (c ∷ cs)) M
+  owed-sound =
+      commit-safe P N (DeadIn P N) (λ u u′ o d. let f = frame P N (r .sizes) u u′ o d in (f .0, f .1)) (λ u w h. low h) m r
+
+  -- an append to a log that goes on, with further stores t and further changes cs
+  module _ (a : Append) (on : a .anew ≡ false) (cs : List Change) (M : FileMap) where
+    pub append-sound : (t : Stores) → Owed P N (DeadIn P N) m (both (prepared m P (free m P N) a) t) (newTail m P (free m P N) a ∷ cs) M
+        → Sound P N m (commit m (both (allPrepared m P (free m P N) (a ∷ [])) t) (allChanges m P (free m P N) (a ∷ []) ++ cs)) M
+    append-sound t o =
+        rw (one-prepared m P (free m P N) a, one-changes m P (free m P N) a, changes-on m P (free m P N) a on) (owed-sound _ _ cs M o)
+
+    pub plain-sound : Owed P N (DeadIn P N) m (prepared m P (free m P N) a) (newTail m P (free m P N) a ∷ cs) M
+        → Sound P N m (commit m (both (allPrepared m P (free m P N) (a ∷ [])) noWords) (allChanges m P (free m P N) (a ∷ []) ++ cs)) M
+    plain-sound o = append-sound noWords (rw (both-none (prepared m P (free m P N) a)) o)

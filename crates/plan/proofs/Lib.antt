@@ -1,2 +1,0 @@
--- The cases of the plan, and of the tail behind it.
-mod Plans

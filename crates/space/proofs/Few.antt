@@ -1,0 +1,51 @@
+-- The lowest few numbers below P of which f holds are the lowest of them and, behind it, the lowest few less one.
+use Rattle.model.proofs.Prelude.{ℕ, zero, suc, _+_, _-_, _≤_, _<_, _≡_, refl, ap, Bool, true, false, cond, not, [], _∷_, arith, sub-zero, add-one, eqb, ltb, length, eq-eqb, ne-eqb, lt-ltb, le-ltb}
+use Rattle.model.specs.Lists.{lowest, lowestFew, orElse}
+use Rattle.model.proofs.Tests.{by-bool, by-eq}
+
+module _ (f : ℕ → Bool) (P : ℕ) where
+  few-end : (s n : ℕ) → P ≤ s → lowestFew f (P - s) s n ≡ []
+  unfolding lowestFew
+  few-end s n l = let z : P - s ≡ 0 = omega arith in rw z
+
+  few-turn : (s n m : ℕ) → s < P → n ≡ m + 1
+      → lowestFew f (P - s) s n ≡ cond (f s) (s ∷ lowestFew f (P - (s + 1)) (s + 1) m) (lowestFew f (P - (s + 1)) (s + 1) n)
+  unfolding lowestFew
+  few-turn s n m l e = let a : P - s ≡ suc (P - (s + 1)) = omega arith in rw (a, e, add-one m)
+
+  few-from : (t s n p : ℕ) → t ≡ P - s → p ≡ orElse (lowest f t s) P → length (lowestFew f (P - s) s (n + 1)) ≡ n + 1
+      → (lowestFew f (P - s) s (n + 1) ≡ p ∷ lowestFew f (P - (p + 1)) (p + 1) n) × (s ≤ p) × (p < P)
+  unfolding lowest
+  few-from zero s n p a e h = absurd (omega (arith, rw (few-end s (n + 1) (omega arith)) at h))
+  few-from (suc t) s n p a e h =
+      by-bool (f s)
+      (λ x. let q : p ≡ s = rw (lowest, x) at e in (rw (q, few-turn s (n + 1) n (omega arith) refl, x), omega arith, omega arith))
+      (λ x. let w = rw x at (few-turn s (n + 1) n (omega arith) refl) in
+      let r = few-from t (s + 1) n p (omega arith) (rw (lowest, x) at e) (rw w at h) in (rw w (r .0), omega arith, r .2))
+
+  -- p is what `next_free` answers from a page on, and there are as many as are sought
+  pub few-first : (from n p : ℕ) → p ≡ orElse (lowest f (P - from) from) P → length (lowestFew f (P - from) from (n + 1)) ≡ n + 1
+      → (lowestFew f (P - from) from (n + 1) ≡ p ∷ lowestFew f (P - (p + 1)) (p + 1) n) × (from ≤ p) × (p < P)
+  few-first from n p = few-from (P - from) from n p refl
+
+  -- The loop of `has_free`: of n numbers m are still sought, from s on; w is how many there are of the n.
+
+  pub few-start : (n : ℕ) → length (lowestFew f (P - 0) 0 n) + n ≡ length (lowestFew f P 0 n) + n
+  few-start n = rw sub-zero
+
+  module _ (s m n w : ℕ) (y : length (lowestFew f (P - s) s m) + n ≡ w + m) where
+    pub few-enough : m ≡ 0 → true ≡ not (ltb w n)
+    few-enough e = rw (le-ltb w n (omega arith))
+
+    pub few-over : P ≤ s → eqb m 0 ≡ not (ltb w n)
+    few-over l =
+        let e = ap length (few-end s m l) in
+        by-eq m 0 (λ h. rw (eq-eqb m 0 h, le-ltb w n (omega arith))) (λ h. rw (ne-eqb m 0 h, lt-ltb w n (omega arith)))
+
+    -- k is how many are sought behind s
+    module _ (k : ℕ) (l : s < P) (h : m ≡ 0 → ⊥) where
+      pub few-found : k ≡ m - 1 → f s ≡ true → length (lowestFew f (P - (s + 1)) (s + 1) k) + n ≡ w + k
+      few-found g x = let e = ap length (rw x at (few-turn s m k l (omega arith))) in omega arith
+
+      pub few-passed : k ≡ m → f s ≡ false → length (lowestFew f (P - (s + 1)) (s + 1) k) + n ≡ w + k
+      few-passed g x = let e = ap length (rw x at (few-turn s m (m - 1) l (omega arith))) in rw g (omega arith)
