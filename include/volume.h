@@ -10,7 +10,7 @@
  * Answers. 0 or more is the call's number. Below 0 it is minus the number of a refusal:
  *
  *     -2  VOLUME_NO_VOLUME     no volume     the length or the first three words break their limits
- *     -3  VOLUME_DAMAGED       damaged       otherwise not a volume that the calls leave behind
+ *     -3  VOLUME_DAMAGED       damaged       behind them something is not as a volume has it
  *     -4  VOLUME_JOURNAL_OPEN  journal open  a change was cut; recover has to run first
  *     -5  VOLUME_BAD_NAME      bad name      not 1 to 32 bytes, or one of them is 0 or 47 ("/")
  *     -6  VOLUME_NOT_THERE     not there     no such name, or the inode is no file's

@@ -6,9 +6,9 @@
 
 use crate::table::{shown, whole, Table};
 use crate::timing::{Effort, Time};
+use calls::list::groups;
 use calls::{Answer, Refusal};
 use office::disk::land_group;
-use reference::groups;
 use samples::{create, done, formatted, numbered, text, write};
 use std::fs::{self, File, OpenOptions};
 use std::os::unix::fs::FileExt;

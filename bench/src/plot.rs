@@ -1,7 +1,7 @@
 //! A plot of lines, both axes logarithmic, as SVG.
 
 use crate::table::whole;
-use std::fmt::Write;
+use svg::{document, element, Attribute};
 
 /// Points that a line joins.
 pub struct Series {
@@ -26,8 +26,7 @@ pub struct Plot {
 }
 
 /// The picture's size, and the frame of the lines in it: left, top, right, bottom.
-const WIDTH: f64 = 900.0;
-const HEIGHT: f64 = 500.0;
+const SIZE: [usize; 2] = [900, 500];
 const FRAME: [f64; 4] = [100.0, 50.0, 610.0, 430.0];
 
 /// The colours of the lines, told apart also by people who see few colours, and the marks of their points.
@@ -45,7 +44,11 @@ impl Plot {
             draw_series(number, series, &scale, &mut svg);
         }
         self.draw_legend(&mut svg);
-        svg + "</svg>\n"
+        document(
+            SIZE,
+            &[("font-family", &"sans-serif"), ("font-size", &13)],
+            &svg,
+        )
     }
 
     /// From the least point to the greatest: powers of 2 across, powers of 10 up.
@@ -89,11 +92,11 @@ impl Plot {
         let (across, up) = ((left + right) / 2.0, (top + bottom) / 2.0);
         text(svg, [across, bottom + 48.0], "middle", &self.across);
         let turned = format!("translate(20 {up}) rotate(-90)");
-        let label = escaped(&self.up);
-        let _ = writeln!(
-            svg,
-            "<text transform=\"{turned}\" text-anchor=\"middle\">{label}</text>"
+        let label = svg::text(
+            &[("transform", &turned), ("text-anchor", &"middle")],
+            &self.up,
         );
+        push(svg, label);
     }
 
     /// The names of the lines, in the order in which the lines end, the highest first.
@@ -139,19 +142,32 @@ impl Scale {
     }
 }
 
+/// White paper and the title.
 fn head(title: &str) -> String {
-    let mut svg = format!(
-        "<svg xmlns=\"http://www.w3.org/2000/svg\" width=\"{WIDTH}\" height=\"{HEIGHT}\" \
-         viewBox=\"0 0 {WIDTH} {HEIGHT}\" font-family=\"sans-serif\" font-size=\"13\">\n\
-         <rect width=\"100%\" height=\"100%\" fill=\"#ffffff\"/>\n"
+    let mut svg = String::new();
+    let paper = element(
+        "rect",
+        &[
+            ("width", &"100%"),
+            ("height", &"100%"),
+            ("fill", &"#ffffff"),
+        ],
     );
-    let _ = writeln!(
-        svg,
-        "<text x=\"{}\" y=\"28\" font-size=\"16\">{}</text>",
-        FRAME[0],
-        escaped(title)
-    );
+    push(&mut svg, paper);
+    let title = svg::text(&[("x", &FRAME[0]), ("y", &28), ("font-size", &16)], title);
+    push(&mut svg, title);
     svg
+}
+
+/// Puts an element in a line of its own.
+fn push(svg: &mut String, element: String) {
+    *svg += &element;
+    svg.push('\n');
+}
+
+/// A place in the picture, to a tenth.
+fn tenths(place: f64) -> String {
+    format!("{place:.1}")
 }
 
 fn draw_series(number: usize, series: &Series, scale: &Scale, svg: &mut String) {
@@ -161,12 +177,16 @@ fn draw_series(number: usize, series: &Series, scale: &Scale, svg: &mut String) 
         .iter()
         .map(|(x, y)| format!("{x:.1},{y:.1}"))
         .collect();
-    let _ = writeln!(
-        svg,
-        "<polyline points=\"{}\" fill=\"none\" stroke=\"{}\" stroke-width=\"2\"/>",
-        joined.join(" "),
-        colour(number)
+    let line = element(
+        "polyline",
+        &[
+            ("points", &joined.join(" ")),
+            ("fill", &"none"),
+            ("stroke", &colour(number)),
+            ("stroke-width", &2),
+        ],
     );
+    push(svg, line);
     for (x, y) in places {
         mark(svg, number, x, y);
     }
@@ -176,38 +196,43 @@ fn draw_series(number: usize, series: &Series, scale: &Scale, svg: &mut String) 
 fn mark(svg: &mut String, number: usize, x: f64, y: f64) {
     let colour = colour(number);
     let fill = if number % 4 < 2 { colour } else { "#ffffff" };
-    let paint = format!("fill=\"{fill}\" stroke=\"{colour}\" stroke-width=\"1.5\"");
-    let _ = if number.is_multiple_of(2) {
-        writeln!(
-            svg,
-            "<circle cx=\"{x:.1}\" cy=\"{y:.1}\" r=\"3.5\" {paint}/>"
-        )
+    let paint: [Attribute<'_>; 3] = [("fill", &fill), ("stroke", &colour), ("stroke-width", &1.5)];
+    let mark = if number.is_multiple_of(2) {
+        let (x, y) = (tenths(x), tenths(y));
+        let circle: [Attribute<'_>; 3] = [("cx", &x), ("cy", &y), ("r", &3.5)];
+        element("circle", &[circle, paint].concat())
     } else {
-        let (left, top) = (x - 3.0, y - 3.0);
-        writeln!(
-            svg,
-            "<rect x=\"{left:.1}\" y=\"{top:.1}\" width=\"6\" height=\"6\" {paint}/>"
-        )
+        let (left, top) = (tenths(x - 3.0), tenths(y - 3.0));
+        let square: [Attribute<'_>; 4] = [("x", &left), ("y", &top), ("width", &6), ("height", &6)];
+        element("rect", &[&square[..], &paint].concat())
     };
+    push(svg, mark);
 }
 
 fn colour(number: usize) -> &'static str {
     COLOURS[number % COLOURS.len()]
 }
 
-fn line(svg: &mut String, [x1, y1, x2, y2]: [f64; 4], colour: &str, width: f64) {
-    let _ = writeln!(
-        svg,
-        "<line x1=\"{x1:.1}\" y1=\"{y1:.1}\" x2=\"{x2:.1}\" y2=\"{y2:.1}\" stroke=\"{colour}\" stroke-width=\"{width}\"/>"
+fn line(svg: &mut String, ends: [f64; 4], colour: &str, width: f64) {
+    let [x1, y1, x2, y2] = ends.map(tenths);
+    let line = element(
+        "line",
+        &[
+            ("x1", &x1),
+            ("y1", &y1),
+            ("x2", &x2),
+            ("y2", &y2),
+            ("stroke", &colour),
+            ("stroke-width", &width),
+        ],
     );
+    push(svg, line);
 }
 
-fn text(svg: &mut String, [x, y]: [f64; 2], anchor: &str, text: &str) {
-    let text = escaped(text);
-    let _ = writeln!(
-        svg,
-        "<text x=\"{x:.1}\" y=\"{y:.1}\" text-anchor=\"{anchor}\">{text}</text>"
-    );
+fn text(svg: &mut String, place: [f64; 2], anchor: &str, text: &str) {
+    let [x, y] = place.map(tenths);
+    let text = svg::text(&[("x", &x), ("y", &y), ("text-anchor", &anchor)], text);
+    push(svg, text);
 }
 
 /// A mark as a number: 0.1, 1, 10, ... 1,000.
@@ -217,12 +242,6 @@ fn mark_number(number: f64) -> String {
     } else {
         whole(number as u64)
     }
-}
-
-fn escaped(text: &str) -> String {
-    text.replace('&', "&amp;")
-        .replace('<', "&lt;")
-        .replace('>', "&gt;")
 }
 
 #[cfg(test)]

@@ -2,8 +2,9 @@
 
 use crate::table::{shown, whole, Table};
 use crate::volumes::opened;
+use calls::list::groups;
 use calls::{Answer, Refusal};
-use reference::{groups, Call};
+use reference::Call;
 use samples::{create, done, formatted, link, numbered, text, write};
 use std::collections::BTreeSet;
 
@@ -389,7 +390,7 @@ mod tests {
     /// Two groups: three lines and one, the first of them with journal words.
     #[test]
     fn lines_are_counted_for_each_group() {
-        let fence = reference::FENCE;
+        let fence = calls::list::FENCE;
         let list = [16, 1, 17, 2, 24, 3, 200, 4, fence, 0, 201, 5, fence, 0];
         let counts = Counts::of(&list);
         assert_eq!((counts.stores, counts.lines, counts.fences), (5, 4, 2));

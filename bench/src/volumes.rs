@@ -1,7 +1,8 @@
 //! The volumes that are timed.
 
+use calls::list::FENCE;
+use reference::judge;
 use reference::layout::{set_word, word};
-use reference::{judge, FENCE};
 use samples::{
     create, done, entry_add, entry_remove, entry_write, formatted, put_log, write, zero_page,
 };

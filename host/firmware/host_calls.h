@@ -1,6 +1,9 @@
 /*
  * The calls of libhost_calls.a, for the tests in this folder. crates/host_calls/src/lib.rt says what each answers; find, size and read are
  * those of include/volume.h.
+ *
+ * Memory that a call stores in (the volume of format and carry_out, a buffer, a list to be filled) overlaps no other memory that it is lent.
+ * A list starts at a multiple of 8, as a uint64_t does; the bytes of a volume and of names may start anywhere.
  */
 #ifndef HOST_CALLS_H
 #define HOST_CALLS_H

@@ -25,7 +25,7 @@ pub enum Answer {
     Taken,
     // 8: over 4,096 bytes to write.
     LongWrite,
-    // 9: the file would be longer than 65,536 bytes.
+    // 9: offset and count of bytes together, or the size, are over 65,536.
     PastTheEnd,
     // 10: all inodes are valid.
     NoInode,

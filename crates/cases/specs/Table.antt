@@ -1,8 +1,9 @@
--- Cases A to K of document 01, "Campsite examples", as rows of one table. A row is data: where it starts, what is called, what is expected.
+-- Cases A to K of document 01, "Campsite examples", and three rows more, as rows of one table. A row is data: where it starts, what is
+-- called, what is expected.
 use Prim.Native.Nat.{ℕ, _+_, _%_}
 use mathlib.Core.List.{List, [], _∷_}
 use Rattle.model.specs.Lists.{valuesFrom}
-use Rattle.model.specs.FileMap.{Call, create, unlink, rename, write, setSize, clean, recover}
+use Rattle.model.specs.FileMap.{Call, create, link, unlink, rename, write, setSize, clean, recover}
 
 -- What a row does.
 pub data Step : Type 0 where
@@ -58,9 +59,16 @@ E = 4
 abbrev J : ℕ
 J = 10
 
+abbrev linked : ℕ
+linked = 13
+
 -- "A1"
 abbrev A1 : List ℕ
 A1 = 65 ∷ 49 ∷ []
+
+-- "A2"
+abbrev A2 : List ℕ
+A2 = 65 ∷ 50 ∷ []
 
 -- n bytes to write: 1, 2, 3 and so on up to 255, then again. Document 01 leaves their values open.
 abbrev bytes : ℕ → List ℕ
@@ -123,4 +131,9 @@ table =
     ∷ record { step = calls J recover; answer = fills 10; facts = namesAre 0 ∷ freeIs 14 ∷ [] }
     -- K
     ∷ record { step = calls B (write 1 0 (bytes 4097)); answer = refuses 8; facts = [] }
+    -- Not of document 01: calls by name that are done and store, which the cases above lack. A further name; a name in place of another;
+    -- one of two names taken away, which keeps the file.
+    ∷ record { step = calls B (link A1 A2); answer = fills 22; facts = namesAre 2 ∷ wordIs 66 1152 ∷ freeIs 13 ∷ [] }
+    ∷ record { step = calls B (rename A1 A2); answer = fills 38; facts = namesAre 1 ∷ wordIs 66 1216 ∷ freeIs 13 ∷ [] }
+    ∷ record { step = calls linked (unlink A1); answer = fills 22; facts = namesAre 1 ∷ wordIs 72 1 ∷ freeIs 13 ∷ [] }
     ∷ []

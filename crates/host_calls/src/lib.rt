@@ -112,7 +112,7 @@ pub extern "C" fn volume_create(volume: &[u8], name: &[u8], list: &mut [u64]) ->
 
 // Fills a store list that gives a file a further name. Answers the count of words filled, or minus the number of the refusal: 1 to 5, 6 not
 // there, 7 taken, 11 directory full, 12 no space.
-// Example: where "A1" is the only name, "A1" and "A2" answer 22, and "A1" and "A1" -7.
+// Example: where "A1" is the only name and the directory's log page has room for an entry, "A1" and "A2" answer 22, and "A1" and "A1" -7.
 #[no_mangle]
 pub extern "C" fn volume_link(volume: &[u8], old: &[u8], new: &[u8], list: &mut [u64]) -> i64
     ensures { λ r. ⌜ Returns (now (volume .entry)) (now (list .entry)) (link (now (old .entry)) (now (new .entry))) r (now (list .exit)) ⌝ }
@@ -122,7 +122,7 @@ pub extern "C" fn volume_link(volume: &[u8], old: &[u8], new: &[u8], list: &mut 
 
 // Fills a store list that takes a name away, and its file if it is the last. Answers the count of words filled, or minus the number of the
 // refusal: 1 to 5, 6 not there, 12 no space.
-// Example: where "A1" is the only name of inode 1, it answers 40.
+// Example: where "A1" is the only name of inode 1 and the directory's log page has room for an entry, it answers 40.
 #[no_mangle]
 pub extern "C" fn volume_unlink(volume: &[u8], name: &[u8], list: &mut [u64]) -> i64
     ensures { λ r. ⌜ Returns (now (volume .entry)) (now (list .entry)) (unlink (now (name .entry))) r (now (list .exit)) ⌝ }
@@ -143,7 +143,7 @@ pub extern "C" fn volume_rename(volume: &[u8], old: &[u8], new: &[u8], list: &mu
 
 // Fills a store list that writes bytes into a file from an offset on. Answers the count of words filled, 0 for no bytes, or minus the
 // number of the refusal: 1 to 4, 6 not there, 8 over 4,096 bytes, 9 past the end, 12 no space.
-// Example: of an empty file of 16 pages, 4 bytes at offset 510 answer 280.
+// Example: of a file that was just made, 4 bytes at offset 510 answer 280.
 #[no_mangle]
 pub extern "C" fn volume_write(
     volume: &[u8],

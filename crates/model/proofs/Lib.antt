@@ -15,3 +15,5 @@ pub mod Reading
 pub mod Format
 pub mod Lengths
 pub mod StoreLists
+pub mod Counting
+pub mod Served

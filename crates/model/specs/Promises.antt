@@ -3,22 +3,27 @@
 use Prim.Native.Nat.{ℕ, _+_, _-_, _*_, _^_, _≤_}
 use mathlib.Core.Path.{_≡_}
 use mathlib.Core.Logic.{_⊎_}
-use mathlib.Core.Bool.{Bool, true, false, cond, _&&_}
+use mathlib.Core.Bool.{Bool, true, false, cond, _&&_, _||_, not}
 use mathlib.Core.List.{List, [], _∷_}
 use mathlib.Core.Option.{Option, none, some}
 use lib.ListN.{length, take, drop, getD}
 use lib.Dec.{leb, ltb, eqb}
+use Rattle.model.specs.Lists.{bit, isSome}
 use Rattle.model.specs.Words.{word}
-use Rattle.model.specs.Layout.{sizesOk, tablePages, listWords}
+use Rattle.model.specs.Layout.{root, tailWord, pageEntries, fileBytes, writeBytes, mostNames, sizesOk, tablePages, listWords}
 use Rattle.model.specs.Journal.{isOpen}
 use Rattle.model.specs.Entry.{nameOk, padded}
+use Rattle.model.specs.Log.{tailSlots}
 use Rattle.model.specs.State.{inodeOf}
-use Rattle.model.specs.FileMap.{FileMap, mapAfter, Call, create, link, unlink, rename, write, setSize, clean, recover}
+use Rattle.model.specs.Accept.{free, freeCount}
+use Rattle.model.specs.FileMap.{FileMap, bytesIn, newInode, mapAfter, Call, create, link, unlink, rename, write, setSize, clean}
+use Rattle.model.specs.FileMap.{recover}
 use Rattle.model.specs.Stores.{Stores}
 use Rattle.model.specs.Power.{Power, held, cut, group, leaves}
 use Rattle.model.specs.Answer.{Answer, refused, done, notThere, filledFrom}
-use Rattle.model.specs.Calls.{groups}
-use Rattle.model.specs.Public.{isAccepted, fills, formatAnswer, formatVolume, pairsOk, endsInFence, carryOut, findAnswer, sizeAnswer}
+use Rattle.model.specs.Calls.{pagesFor, lowestRun, pagesCovered, cutsPage, cleanEntries, groups}
+use Rattle.model.specs.Public.{isAccepted, fills, callAnswer, formatAnswer, formatVolume, pairsOk, endsInFence, carryOut, findAnswer}
+use Rattle.model.specs.Public.{sizeAnswer}
 use Rattle.model.specs.Public.{readAnswer, readBuffer, kthNameAnswer, kthNameBuffer, freeAnswer}
 use Rattle.model.specs.Claim.{Bytes, CallBytes, Event, History, HistoryBytes, answerTo, volumeAfter, mapIn}
 
@@ -155,3 +160,67 @@ pub record ReadsMap (v : List ℕ) : Type 0 where
 
 abbrev pub ReadingDone : Type 0
 ReadingDone = (v : List ℕ) → isAccepted v ≡ true → isOpen (word v) ≡ false → ReadsMap v
+
+-- Calls are served. "A version that refuses always, or says "no space" on a volume with enough, breaks the second demand": on an accepted
+-- volume with its journal closed each call is done exactly where its file map and its free pages allow it.
+
+abbrev pub isServed : {A : Type 0} → Answer A → Bool
+isServed (refused n) = false
+isServed (done a) = true
+
+-- all of these
+abbrev pub every : List Bool → Bool
+every [] = true
+every (b ∷ bs) = b && every bs
+
+-- name n stands in the map M
+abbrev pub named : FileMap → List ℕ → Bool
+named M n = not (eqb (inodeOf (M .names) n) 0)
+
+module _ (v : List ℕ) where
+  abbrev pub freePages : ℕ
+  freePages = freeCount (word v) (word v 0) (word v 1)
+
+  -- somewhere n free pages stand in a row
+  abbrev pub hasRun : ℕ → Bool
+  hasRun n = isSome (lowestRun (free (word v) (word v 0) (word v 1)) (word v 0) n)
+
+  -- the last page of inode k's log has room for n more entries
+  abbrev pub hasSlots : ℕ → ℕ → Bool
+  hasSlots k n = not (eqb (word v (tailWord k)) 0) && leb (tailSlots (word v) k + n) pageEntries
+
+  -- n more entries of inode k's log and c data pages have room: the data in a row, and a page more where the log's last page is too full
+  abbrev pub hasSpace : ℕ → ℕ → ℕ → Bool
+  hasSpace k n c = hasRun c && (hasSlots k n || ltb c freePages)
+
+  -- whether a new size cuts a page of file k, which then is copied
+  abbrev pub cuts : ℕ → ℕ → Bool
+  cuts k s = cutsPage (word v) (word v 0) (word v 1) k s
+
+  -- the pages of inode k's log written anew
+  abbrev pub pagesAnew : ℕ → ℕ
+  pagesAnew k = pagesFor (length (cleanEntries (word v) (word v 0) (word v 1) k))
+
+  -- each call with a lent list; M is the file map
+  pub record Serves (list : List ℕ) (M : FileMap) : Type 0 where
+    pub creates : (n : List ℕ) → isServed (callAnswer v list (create n))
+        ≡ every (nameOk n ∷ not (named M n) ∷ not (eqb (newInode (word v 1) M) 0) ∷ ltb (length (M .names)) mostNames
+        ∷ hasSpace root 1 0 ∷ [])
+    pub links : (a b : List ℕ) → isServed (callAnswer v list (link a b))
+        ≡ every ((nameOk a && nameOk b) ∷ named M a ∷ not (named M b) ∷ ltb (length (M .names)) mostNames ∷ hasSpace root 1 0 ∷ [])
+    pub unlinks : (n : List ℕ) → isServed (callAnswer v list (unlink n)) ≡ every (nameOk n ∷ named M n ∷ hasSpace root 1 0 ∷ [])
+    pub renames : (a b : List ℕ) → isServed (callAnswer v list (rename a b))
+        ≡ every ((nameOk a && nameOk b) ∷ named M a ∷ (eqb (inodeOf (M .names) a) (inodeOf (M .names) b) || hasSpace root 2 0) ∷ [])
+    pub writes : (k o : ℕ) (bs : List ℕ) → isServed (callAnswer v list (write k o bs))
+        ≡ every (isSome (M .files k) ∷ leb (length bs) writeBytes ∷ leb (o + length bs) fileBytes
+        ∷ (eqb (length bs) 0 || hasSpace k 1 (pagesCovered o (o + length bs))) ∷ [])
+    pub sets : (k s : ℕ) → isServed (callAnswer v list (setSize k s))
+        ≡ every (isSome (M .files k) ∷ leb s fileBytes
+        ∷ (eqb s (length (bytesIn M k)) || hasSpace k (1 + bit (cuts k s)) (bit (cuts k s))) ∷ [])
+    pub cleans : (k : ℕ) → isServed (callAnswer v list (clean k))
+        ≡ every ((eqb k root || isSome (M .files k)) ∷ (eqb (word v (tailWord k)) 0 || leb (pagesAnew k) freePages) ∷ [])
+    pub recovers : isServed (callAnswer v list recover) ≡ true
+
+abbrev pub CallsServed : Type 0
+CallsServed =
+    (v : List ℕ) → isAccepted v ≡ true → isOpen (word v) ≡ false → (list : List ℕ) → listWords ≤ length list → Serves v list (mapIn v)

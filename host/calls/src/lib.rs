@@ -10,7 +10,8 @@
 //! calls need about 64 KB of stack for their tables, the changing calls about 88 KB.
 //!
 //! A changing call other than [`format()`] leaves the volume alone and fills a lent *store list* of 4,096 words or
-//! more, which [`carry_out`] then stores.
+//! more, which [`carry_out`] then stores. A program that stores a list by itself, group by group,
+//! finds the groups with [`list::groups`] and the numbers that it needs in [`layout`].
 //!
 //! # Example
 //!
@@ -44,6 +45,9 @@
 //! ```
 
 #![warn(missing_docs)]
+
+pub mod layout;
+pub mod list;
 
 mod changing;
 

@@ -1,6 +1,7 @@
 //! Words stored in a file: runs of consecutive words as one write each, and a sync of the file as the fence.
 
-use reference::Store;
+use calls::layout::word_offset;
+use calls::list::Store;
 use std::fs::File;
 use std::io;
 use std::os::unix::fs::FileExt;
@@ -29,7 +30,7 @@ pub fn write_stores(disk: &impl Disk, stores: &[Store]) -> io::Result<()> {
     for run in stores.chunk_by(|one, next| one.0 + 1 == next.0) {
         let words = run.iter().map(|(_, value)| value.to_le_bytes());
         let bytes: Vec<u8> = words.flatten().collect();
-        disk.write_at(&bytes, run[0].0 * 8)?;
+        disk.write_at(&bytes, word_offset(run[0].0))?;
     }
     Ok(())
 }

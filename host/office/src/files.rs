@@ -2,7 +2,7 @@
 
 use crate::failure::Failure;
 use crate::text::{shown_path, thousands};
-use reference::layout::SIZE_LIMIT;
+use calls::layout::SIZE_LIMIT;
 use std::ffi::{OsStr, OsString};
 use std::fs::{self, File, Metadata, OpenOptions};
 use std::io::{self, ErrorKind, Read, Write};

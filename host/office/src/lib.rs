@@ -10,6 +10,8 @@
 //! that one whichever words were written; `office recover` closes the journal. A lock on the file keeps two commands
 //! from storing at the same time.
 //!
+//! Only [`show`], which stores nothing, reads through the reference model.
+//!
 //! The modules, top-down: [`commands`] (what each command does), [`store`] (the volume in its file), [`disk`] (words stored in a file), [`show`] (what a
 //! volume looks like), [`files`] (files of the host), [`arguments`], [`help`], [`failure`], [`progress`] and
 //! [`text`].

@@ -4,15 +4,12 @@ use crate::disk::{land_group, write_stores, Disk};
 use crate::failure::{advice, Failure};
 use crate::files::is_file_of;
 use crate::text::{complain, shown_path};
-use reference::layout::LIST_WORDS;
-use reference::{groups, Store as WordStore};
+use calls::layout::{LIST_WORDS, VOLUME_LIMIT};
+use calls::list::{groups, Store as WordStore};
 use refusal::{Answer, Refusal};
 use std::fs::{File, OpenOptions, TryLockError};
 use std::io::{self, Read};
 use std::path::{Path, PathBuf};
-
-/// The most bytes that a volume can have: 4,096 pages.
-pub const VOLUME_LIMIT: u64 = 4_096 * 512;
 
 /// What a command does with the volume.
 #[derive(Clone, Copy, Debug, PartialEq, Eq)]

@@ -1,31 +1,12 @@
 //! The judgement of a volume: whether it is accepted, and what it then holds.
 
+use crate::damage::{BadNames, Damage, Fault};
 use crate::journal::Journal;
 use crate::layout::{head_word, tail_word, valid_word, Sizes, DIRECTORY, NAME_LIMIT, PAGE_BYTES};
 use crate::log::{replay_names, File, Log};
+use crate::uses::{take, unused, Use};
 use crate::Refusal;
 use std::collections::BTreeMap;
-
-/// What a page serves for.
-#[derive(Clone, Copy, Debug, PartialEq, Eq)]
-pub enum Use {
-    /// One of pages 0 to T: words 0 to 63 or the inode table.
-    Fixed,
-    /// A free page.
-    Free,
-    /// A log page of a valid inode.
-    Log {
-        /// The inode.
-        inode: u64,
-    },
-    /// A mapped page of a valid file.
-    Data {
-        /// The file's inode.
-        inode: u64,
-        /// The file page that it is mapped to.
-        file_page: u64,
-    },
-}
 
 /// An accepted volume, read with the journal's open entries put back.
 #[derive(Clone, Debug)]
@@ -50,8 +31,38 @@ pub struct Volume<'v> {
 ///
 /// Everything is read with the journal's open entries put back.
 pub fn judge(volume: &[u8]) -> Result<Volume<'_>, Refusal> {
+    Ok(examine(volume)?)
+}
+
+/// Judges a volume as [`judge`] does, and says what is wrong where it is not accepted.
+///
+/// Of several things that are wrong, one is answered.
+///
+/// ```
+/// use reference::{examine, format, BadJournal, Damage, Fault, NoVolume, Refusal};
+///
+/// let mut volume = vec![0; 16 * 512];
+/// let fault = examine(&volume).unwrap_err();
+/// assert_eq!(fault, Fault::NoVolume(NoVolume::PageCount { pages: 0 }));
+///
+/// format(&mut volume, 16, 8)?;
+/// assert!(examine(&volume).is_ok());
+///
+/// volume[64] = 16;
+/// let fault = examine(&volume).unwrap_err();
+/// let damage = Damage::Journal(BadJournal::Dequeue { position: 16 });
+/// assert_eq!(fault, Fault::Damaged { damage, put_back: 0 });
+/// assert_eq!(Refusal::from(fault), Refusal::Damaged);
+/// # Ok::<(), Refusal>(())
+/// ```
+pub fn examine(volume: &[u8]) -> Result<Volume<'_>, Fault> {
     let sizes = Sizes::of(volume)?;
-    accepted(volume, sizes).ok_or(Refusal::Damaged)
+    let journal = Journal::read(volume, sizes).map_err(|wrong| Fault::Damaged {
+        damage: Damage::Journal(wrong),
+        put_back: 0,
+    })?;
+    let put_back = journal.open.len();
+    accepted(volume, sizes, journal).map_err(|damage| Fault::Damaged { damage, put_back })
 }
 
 /// Judges a volume for a call that needs the journal closed. The refusals are 2, 3 and 4.
@@ -63,11 +74,11 @@ pub(crate) fn judge_closed(volume: &[u8]) -> Result<Volume<'_>, Refusal> {
     Ok(volume)
 }
 
-fn accepted(bytes: &[u8], sizes: Sizes) -> Option<Volume<'_>> {
+fn accepted(bytes: &[u8], sizes: Sizes, journal: Journal) -> Result<Volume<'_>, Damage> {
     let mut volume = Volume {
         bytes,
         sizes,
-        journal: Journal::read(bytes, sizes)?,
+        journal,
         names: Vec::new(),
         files: BTreeMap::new(),
         logs: BTreeMap::new(),
@@ -75,103 +86,99 @@ fn accepted(bytes: &[u8], sizes: Sizes) -> Option<Volume<'_>> {
     };
     volume.walk_logs()?;
     volume.replay_logs()?;
+    volume.check_names().map_err(Damage::Names)?;
     volume.place_mapped_pages()?;
-    let in_order = volume.names_in_order() && volume.files.values().all(|file| volume.ends(file));
-    in_order.then_some(volume)
+    for (&inode, file) in &volume.files {
+        volume.check_end(inode, file)?;
+    }
+    Ok(volume)
 }
 
-fn unused(sizes: Sizes) -> Vec<Use> {
-    let mut uses = vec![Use::Free; sizes.pages() as usize];
-    uses[..sizes.first_page() as usize].fill(Use::Fixed);
-    uses
-}
-
-/// The steps of the judgement; `None` or `false` where the volume is not accepted.
+/// The steps of the judgement; each answers what is wrong where the volume is not accepted.
 impl Volume<'_> {
     /// Reads the inode table and walks the log of every valid inode.
-    fn walk_logs(&mut self) -> Option<()> {
+    fn walk_logs(&mut self) -> Result<(), Damage> {
         for inode in DIRECTORY..self.sizes.inodes() {
             match self.word(valid_word(inode)) {
-                0 if inode != DIRECTORY => {}
                 1 => {
-                    let log = self.walk_log(inode)?;
+                    let ends = [head_word(inode), tail_word(inode)].map(|index| self.word(index));
+                    let log = Log::walk(self.bytes, self.sizes, inode, ends, &mut self.uses)?;
                     self.logs.insert(inode, log);
                 }
-                _ => return None,
+                0 if inode != DIRECTORY => {}
+                0 => return Err(Damage::NoDirectory),
+                value => return Err(Damage::ValidWord { inode, value }),
             }
         }
-        Some(())
+        Ok(())
     }
 
-    fn walk_log(&mut self, inode: u64) -> Option<Log> {
-        let head = self.word(head_word(inode));
-        let tail = self.word(tail_word(inode));
-        let uses = &mut self.uses;
-        Log::walk(self.bytes, self.sizes, head, tail, |page| {
-            take(uses, page, Use::Log { inode })
-        })
-    }
-
-    fn replay_logs(&mut self) -> Option<()> {
+    fn replay_logs(&mut self) -> Result<(), Damage> {
         for (&inode, log) in &self.logs {
-            let entries = log.entries(self.bytes);
+            let entries = log.read(self.bytes, self.sizes, inode);
             if inode == DIRECTORY {
-                self.names = replay_names(entries, self.sizes)?;
+                self.names = replay_names(entries)?;
             } else {
-                self.files.insert(inode, File::replay(entries, self.sizes)?);
+                self.files.insert(inode, File::replay(entries)?);
             }
         }
-        Some(())
-    }
-
-    /// Gives every mapped page to its file; no page may serve twice.
-    fn place_mapped_pages(&mut self) -> Option<()> {
-        for (&inode, file) in &self.files {
-            for (file_page, data_page) in file.mapped() {
-                let data = Use::Data { inode, file_page };
-                if !take(&mut self.uses, data_page, data) {
-                    return None;
-                }
-            }
-        }
-        Some(())
+        Ok(())
     }
 
     /// At most 224 names stand, each names a valid file, and each valid file has a name.
-    fn names_in_order(&self) -> bool {
+    fn check_names(&self) -> Result<(), BadNames> {
+        let count = self.names.len();
+        if count > NAME_LIMIT {
+            return Err(BadNames::Many { count });
+        }
         let mut named = vec![false; self.sizes.inodes() as usize];
-        for &(_, inode) in &self.names {
+        for &(name, inode) in &self.names {
+            if !self.files.contains_key(&inode) {
+                let name = name.to_vec();
+                return Err(BadNames::NoFile { name, inode });
+            }
             named[inode as usize] = true;
         }
-        self.names.len() <= NAME_LIMIT
-            && (0..)
-                .zip(named)
-                .skip(1)
-                .all(|(inode, named)| named == self.files.contains_key(&inode))
+        let nameless = self.files.keys().find(|&&inode| !named[inode as usize]);
+        nameless.map_or(Ok(()), |&inode| Err(BadNames::NoName { inode }))
+    }
+
+    /// Gives every mapped page to its file; no page may serve twice.
+    fn place_mapped_pages(&mut self) -> Result<(), Damage> {
+        for (&inode, file) in &self.files {
+            for (file_page, data_page) in file.mapped() {
+                take(&mut self.uses, data_page, Use::Data { inode, file_page })?;
+            }
+        }
+        Ok(())
     }
 
     /// No mapped page starts at or after the size, and one holding the size is zero from there on.
-    fn ends(&self, file: &File) -> bool {
-        file.mapped().all(|(file_page, data_page)| {
+    fn check_end(&self, inode: u64, file: &File) -> Result<(), Damage> {
+        let size = file.size;
+        for (file_page, data_page) in file.mapped() {
             let start = file_page * PAGE_BYTES;
-            start < file.size
-                && self
-                    .page(data_page)
-                    .iter()
-                    .skip((file.size - start) as usize)
-                    .all(|&byte| byte == 0)
-        })
+            if start >= size {
+                return Err(Damage::PastSize {
+                    inode,
+                    file_page,
+                    size,
+                });
+            }
+            let mut after = self.page(data_page).iter().skip((size - start) as usize);
+            if let Some(distance) = after.position(|&value| value != 0) {
+                let byte = size + distance as u64;
+                return Err(Damage::NotZero {
+                    inode,
+                    byte,
+                    file_page,
+                    data_page,
+                    size,
+                });
+            }
+        }
+        Ok(())
     }
-}
-
-/// Gives a free page a use; answers whether it was free.
-fn take(uses: &mut [Use], page: u64, new: Use) -> bool {
-    let place = &mut uses[page as usize];
-    let free = *place == Use::Free;
-    if free {
-        *place = new;
-    }
-    free
 }
 
 /// What an accepted volume holds.

@@ -1,9 +1,7 @@
 //! The journal: sixteen positions, of which those from dequeue up to enqueue are open.
 
-use crate::layout::{word, Sizes, DEQUEUE_WORD, ENQUEUE_WORD};
-
-/// The most entries that may be open on an accepted volume.
-const OPEN_LIMIT: u64 = 4;
+use crate::damage::BadJournal;
+use crate::layout::{word, Sizes, DEQUEUE_WORD, ENQUEUE_WORD, OPEN_LIMIT};
 
 /// A journal position: below 16, and the one after 15 is 0.
 #[derive(Clone, Copy, Debug, PartialEq, Eq)]
@@ -25,7 +23,12 @@ impl Position {
 
     /// The position after this one.
     pub fn next(self) -> Position {
-        Position((self.0 + 1) % Position::COUNT)
+        self.after(1)
+    }
+
+    /// The position so many steps after this one, at most 16.
+    fn after(self, steps: u64) -> Position {
+        Position((self.0 + steps) % Position::COUNT)
     }
 
     /// How many steps lead from this position to the other.
@@ -65,30 +68,43 @@ pub struct Journal {
 }
 
 impl Journal {
-    /// Reads the journal; `None` if it is not as an accepted volume has it.
-    pub(crate) fn read(volume: &[u8], sizes: Sizes) -> Option<Journal> {
-        let dequeue = Position::new(word(volume, DEQUEUE_WORD))?;
-        let enqueue = Position::new(word(volume, ENQUEUE_WORD))?;
-        if dequeue.distance(enqueue) > OPEN_LIMIT {
-            return None;
+    /// Reads the journal, or what is wrong with it.
+    pub(crate) fn read(volume: &[u8], sizes: Sizes) -> Result<Journal, BadJournal> {
+        let position = word(volume, DEQUEUE_WORD);
+        let dequeue = Position::new(position).ok_or(BadJournal::Dequeue { position })?;
+        let position = word(volume, ENQUEUE_WORD);
+        let enqueue = Position::new(position).ok_or(BadJournal::Enqueue { position })?;
+        let count = dequeue.distance(enqueue);
+        if count > OPEN_LIMIT {
+            return Err(BadJournal::ManyOpen { count });
         }
-        let mut open: Vec<OpenEntry> = Vec::new();
-        let mut position = dequeue;
-        while position != enqueue {
-            let target = word(volume, position.target_word());
-            let old = word(volume, position.old_word());
-            let twice = open.iter().any(|entry| entry.target == target);
-            if twice || !sizes.is_inode_word(target) {
-                return None;
-            }
-            open.push(OpenEntry { target, old });
-            position = position.next();
-        }
-        Some(Journal {
+        let mut journal = Journal {
             dequeue,
             enqueue,
-            open,
-        })
+            open: Vec::new(),
+        };
+        let mut position = dequeue;
+        while position != enqueue {
+            journal.open_entry(volume, sizes, position)?;
+            position = position.next();
+        }
+        Ok(journal)
+    }
+
+    /// Reads the open entry at a position, the one after those that are read.
+    fn open_entry(&mut self, volume: &[u8], sizes: Sizes, at: Position) -> Result<(), BadJournal> {
+        let [target, old] = [at.target_word(), at.old_word()].map(|index| word(volume, index));
+        let position = at.number();
+        if !sizes.is_inode_word(target) {
+            return Err(BadJournal::Target { position, target });
+        }
+        let earlier = self.open.iter().position(|entry| entry.target == target);
+        if let Some(steps) = earlier {
+            let positions = [self.dequeue.after(steps as u64).number(), position];
+            return Err(BadJournal::OneTarget { positions, target });
+        }
+        self.open.push(OpenEntry { target, old });
+        Ok(())
     }
 
     /// Whether entries are open.

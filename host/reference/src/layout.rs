@@ -1,6 +1,6 @@
 //! The layout of a volume: words, pages, its two sizes, the inode table and the limits.
 
-use crate::Refusal;
+use crate::damage::NoVolume;
 
 /// A page has 512 bytes.
 pub const PAGE_BYTES: u64 = 512;
@@ -19,6 +19,8 @@ pub const WRITE_LIMIT: usize = 4_096;
 pub const NAME_BYTES: usize = 32;
 /// At most 224 names stand.
 pub const NAME_LIMIT: usize = 224;
+/// At most four journal entries are open.
+pub const OPEN_LIMIT: u64 = 4;
 /// A store list to be filled has at least 4,096 words.
 pub const LIST_WORDS: usize = 4_096;
 /// The program volume-list reads at most 65,536 bytes.
@@ -77,7 +79,12 @@ fn byte_of_word(index: u64) -> Option<usize> {
 
 /// Whether a name is allowed: 1 to 32 bytes, none of them 0 or 47 ("/").
 pub fn allowed_name(name: &[u8]) -> bool {
-    (1..=NAME_BYTES).contains(&name.len()) && !name.iter().any(|&byte| byte == 0 || byte == b'/')
+    (1..=NAME_BYTES).contains(&name.len()) && name.iter().all(|&byte| allowed_byte(byte))
+}
+
+/// Whether a name may have this byte.
+pub(crate) fn allowed_byte(byte: u8) -> bool {
+    byte != 0 && byte != b'/'
 }
 
 /// The volume's two sizes, within their limits.
@@ -89,28 +96,39 @@ pub struct Sizes {
 
 impl Sizes {
     /// Judges P and N against each other and against the slice length. The refusal is 2.
-    pub fn new(length: usize, pages: u64, inodes: u64) -> Result<Sizes, Refusal> {
-        let within = (16..=4_096).contains(&pages)
-            && (8..=256).contains(&inodes)
-            && inodes.is_multiple_of(8)
-            && pages >= inodes / 8 + 4
-            && length as u64 == pages * PAGE_BYTES;
-        if !within {
-            return Err(Refusal::NoVolume);
+    pub fn new(length: usize, pages: u64, inodes: u64) -> Result<Sizes, NoVolume> {
+        if !(16..=4_096).contains(&pages) {
+            return Err(NoVolume::PageCount { pages });
+        }
+        if !(8..=256).contains(&inodes) || !inodes.is_multiple_of(8) {
+            return Err(NoVolume::InodeCount { inodes });
+        }
+        let least = inodes / 8 + 4;
+        if pages < least {
+            return Err(NoVolume::FewPages {
+                pages,
+                inodes,
+                least,
+            });
+        }
+        if length as u64 != pages * PAGE_BYTES {
+            return Err(NoVolume::Length { length, pages });
         }
         Ok(Sizes { pages, inodes })
     }
 
     /// The sizes that words 0 and 1 of a slice give, if it is a volume. The refusal is 2.
-    pub fn of(volume: &[u8]) -> Result<Sizes, Refusal> {
-        if word(volume, FORMAT_WORD) != 1 {
-            return Err(Refusal::NoVolume);
+    pub fn of(volume: &[u8]) -> Result<Sizes, NoVolume> {
+        let length = volume.len();
+        if length < 24 {
+            return Err(NoVolume::Short { length });
         }
-        Sizes::new(
-            volume.len(),
-            word(volume, PAGES_WORD),
-            word(volume, INODES_WORD),
-        )
+        let [pages, inodes] = [PAGES_WORD, INODES_WORD].map(|index| word(volume, index));
+        let sizes = Sizes::new(length, pages, inodes)?;
+        match word(volume, FORMAT_WORD) {
+            1 => Ok(sizes),
+            value => Err(NoVolume::FormatWord { value }),
+        }
     }
 
     /// P, the page count.

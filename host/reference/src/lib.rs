@@ -1,8 +1,9 @@
 //! A plain reference implementation of the file store that document 01 describes.
 //!
 //! It was written from document 01 alone, to test other code against. It is meant to be read
-//! top-down: [`layout`] (words, pages, sizes), the journal, the logs, the judgement of a volume,
-//! the free pages, store lists and power cuts, the changing calls, the reading calls, the file map.
+//! top-down: [`layout`] (words, pages, sizes), the journal, the logs, the judgement of a volume and
+//! what it finds wrong ([`Fault`]), the free pages, store lists and power cuts, the changing calls,
+//! the reading calls, the file map.
 //!
 //! A *volume* is a lent slice of bytes. Every call works from the volume alone. A changing call
 //! other than [`format()`] leaves the volume alone and fills a lent list of words, the *store list*,
@@ -43,18 +44,22 @@ pub mod random;
 mod accept;
 mod calls;
 mod commit;
+mod damage;
 mod journal;
 mod log;
 mod map;
 mod reading;
 mod space;
 mod stores;
+mod uses;
 
-pub use accept::{judge, Use, Volume};
+pub use accept::{examine, judge, Volume};
 pub use calls::{clean, create, format, link, recover, rename, set_size, unlink, write, Call};
+pub use damage::{BadEntry, BadJournal, BadLog, BadNames, Damage, Fault, NoVolume};
 pub use journal::{Journal, OpenEntry, Position};
-pub use log::{replay_names, Entry, File, Log};
+pub use log::{Entry, EntryBytes, File, Log, Placed};
 pub use map::{map, map_after, refused_by_map, FileMap};
 pub use reading::{find, free_count, kth_name, listing, read, size};
 pub use refusal::{Answer, Refusal};
 pub use stores::{carry_out, cut, groups, land, Store, FENCE};
+pub use uses::Use;

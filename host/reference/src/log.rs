@@ -1,15 +1,20 @@
 //! Logs: the four kinds of log entry, the walk from head to tail, and what a log means.
 
+use crate::damage::{BadEntry, BadLog, Damage};
 use crate::layout::{
-    allowed_name, word, Sizes, DIRECTORY, FILE_PAGES, NAME_BYTES, PAGE_BYTES, PAGE_WORDS,
+    allowed_byte, word, Sizes, DIRECTORY, FILE_PAGES, NAME_BYTES, PAGE_BYTES, PAGE_WORDS,
     SIZE_LIMIT,
 };
+use crate::uses::{take, Use};
 use std::collections::HashMap;
 
 /// A log entry has 64 bytes.
 pub(crate) const ENTRY_BYTES: u64 = 64;
 /// A log page has seven entries; the footer starts after these bytes.
 pub(crate) const FOOTER_OFFSET: u64 = 7 * ENTRY_BYTES;
+
+/// The bytes of an entry.
+pub type EntryBytes = [u8; ENTRY_BYTES as usize];
 
 /// Where the name starts in an entry of kind 3 or 4.
 const NAME_OFFSET: usize = 24;
@@ -53,14 +58,16 @@ pub enum Entry<'v> {
 }
 
 impl<'v> Entry<'v> {
-    /// Reads the entry that these 64 bytes hold; `None` if no entry may look like this.
-    pub fn read(bytes: &'v [u8], sizes: Sizes) -> Option<Entry<'v>> {
+    /// Reads the entry that these 64 bytes hold, or what is wrong with it.
+    // Inlined with the two below: docs/FIGURES.md times this model, and a wide answer takes time.
+    #[inline]
+    pub fn read(bytes: &'v EntryBytes, sizes: Sizes) -> Result<Entry<'v>, BadEntry> {
         match word(bytes, 0) {
             1 => read_write(bytes, sizes),
             2 => read_size(bytes, 1).map(|size| Entry::SetSize { size }),
             3 => read_add(bytes, sizes),
             4 => read_name(bytes).map(|name| Entry::Remove { name }),
-            _ => None,
+            kind => Err(BadEntry::Kind { kind }),
         }
     }
 
@@ -80,16 +87,24 @@ impl<'v> Entry<'v> {
     }
 }
 
-fn read_write(bytes: &[u8], sizes: Sizes) -> Option<Entry<'_>> {
+fn read_write(bytes: &EntryBytes, sizes: Sizes) -> Result<Entry<'_>, BadEntry> {
     let [file_page, data_page, count] = [1, 2, 3].map(|index| word(bytes, index));
     let size = read_size(bytes, 4)?;
-    let end_of_file_pages = file_page.checked_add(count)?;
-    let end_of_data_pages = data_page.checked_add(count)?;
-    let allowed = (1..=FILE_PAGES).contains(&count)
-        && end_of_file_pages <= FILE_PAGES
-        && data_page >= sizes.first_page()
-        && end_of_data_pages <= sizes.pages();
-    allowed.then_some(Entry::Write {
+    if !(1..=FILE_PAGES).contains(&count) {
+        return Err(BadEntry::Count { count });
+    }
+    if file_page > FILE_PAGES - count {
+        let first = file_page;
+        return Err(BadEntry::FilePages { first, count });
+    }
+    if !holds_pages(sizes, data_page, count) {
+        return Err(BadEntry::DataPages {
+            first: data_page,
+            count,
+            allowed: [sizes.first_page(), sizes.pages() - 1],
+        });
+    }
+    Ok(Entry::Write {
         file_page,
         data_page,
         count,
@@ -97,24 +112,49 @@ fn read_write(bytes: &[u8], sizes: Sizes) -> Option<Entry<'_>> {
     })
 }
 
-fn read_size(bytes: &[u8], index: u64) -> Option<u64> {
-    Some(word(bytes, index)).filter(|&size| size <= SIZE_LIMIT)
+/// Whether so many pages from a first one on all lie in T+1 to P−1.
+fn holds_pages(sizes: Sizes, first: u64, count: u64) -> bool {
+    let end = first.checked_add(count);
+    first >= sizes.first_page() && end.is_some_and(|end| end <= sizes.pages())
 }
 
-fn read_add(bytes: &[u8], sizes: Sizes) -> Option<Entry<'_>> {
-    let inode = word(bytes, 1);
+fn read_size(bytes: &EntryBytes, index: u64) -> Result<u64, BadEntry> {
+    let size = word(bytes, index);
+    if size > SIZE_LIMIT {
+        return Err(BadEntry::Size { size });
+    }
+    Ok(size)
+}
+
+#[inline]
+fn read_add(bytes: &EntryBytes, sizes: Sizes) -> Result<Entry<'_>, BadEntry> {
     let name = read_name(bytes)?;
-    (DIRECTORY + 1..sizes.inodes())
-        .contains(&inode)
-        .then_some(Entry::Add { inode, name })
+    let inode = word(bytes, 1);
+    let last = sizes.inodes() - 1;
+    if !(DIRECTORY + 1..=last).contains(&inode) {
+        return Err(BadEntry::AddedInode { inode, last });
+    }
+    Ok(Entry::Add { inode, name })
 }
 
 /// The name of an entry of kind 3 or 4: an allowed name, the bytes after it 0.
-fn read_name(bytes: &[u8]) -> Option<&[u8]> {
-    let field = bytes.get(NAME_OFFSET..NAME_OFFSET + NAME_BYTES)?;
-    let length = usize::try_from(word(bytes, 2)).ok()?;
-    let (name, rest) = field.split_at_checked(length)?;
-    (allowed_name(name) && rest.iter().all(|&byte| byte == 0)).then_some(name)
+#[inline]
+fn read_name(bytes: &EntryBytes) -> Result<&[u8], BadEntry> {
+    let length = word(bytes, 2);
+    if !(1..=NAME_BYTES as u64).contains(&length) {
+        return Err(BadEntry::NameLength { length });
+    }
+    let field = &bytes[NAME_OFFSET..NAME_OFFSET + NAME_BYTES];
+    let (name, rest) = field.split_at(length as usize);
+    if let Some(&byte) = name.iter().find(|&&byte| !allowed_byte(byte)) {
+        let name = name.to_vec();
+        return Err(BadEntry::NameByte { name, byte });
+    }
+    if rest.iter().any(|&byte| byte != 0) {
+        let name = name.to_vec();
+        return Err(BadEntry::AfterName { name });
+    }
+    Ok(name)
 }
 
 fn named_words(kind: u64, inode: u64, name: &[u8]) -> [u64; 8] {
@@ -143,39 +183,43 @@ impl Log {
 
     /// Walks from the head through the footers to the tail's page, the first time it is met.
     ///
-    /// `take` is handed each page and answers whether it served for nothing else before, this
-    /// walk included; so the walk always ends. `None` if the log is not as an accepted volume has
-    /// it.
+    /// Each page is given its use on the way. So the walk always ends: one that comes back to a
+    /// page of its own would go round for ever, and is judged there.
     pub(crate) fn walk(
         volume: &[u8],
         sizes: Sizes,
-        head: u64,
-        tail: u64,
-        mut take: impl FnMut(u64) -> bool,
-    ) -> Option<Log> {
+        inode: u64,
+        [head, tail]: [u64; 2],
+        uses: &mut [Use],
+    ) -> Result<Log, Damage> {
         let mut pages = Vec::new();
         if tail == 0 {
-            return Some(Log { tail, pages });
+            return Ok(Log { tail, pages });
         }
-        let within_page = tail % PAGE_BYTES;
-        if within_page == 0 || !within_page.is_multiple_of(ENTRY_BYTES) {
-            return None;
-        }
+        let damage = |wrong| Damage::Log { inode, wrong };
+        check_ends(sizes, head, tail).map_err(damage)?;
+        let last = tail / PAGE_BYTES;
+        let log = Use::Log { inode };
         let mut page = head;
         loop {
-            if !sizes.holds_page(page) || !take(page) {
-                return None;
-            }
+            take(uses, page, log)?;
             pages.push(page);
-            if page == tail / PAGE_BYTES {
-                return Some(Log { tail, pages });
+            if page == last {
+                return Ok(Log { tail, pages });
             }
-            page = word(volume, footer_word(page));
+            let next = word(volume, footer_word(page));
+            if !sizes.holds_page(next) {
+                return Err(damage(BadLog::Footer { page, next }));
+            }
+            if uses[next as usize] == log {
+                return Err(damage(BadLog::Endless { page, next, last }));
+            }
+            page = next;
         }
     }
 
-    /// The entries of the log in order, 64 bytes each. The volume is the one that was walked.
-    pub fn entries<'a, 'v: 'a>(&'a self, volume: &'v [u8]) -> impl Iterator<Item = &'v [u8]> + 'a {
+    /// The entries of the log in order, with their places. The volume is the one that was walked.
+    pub fn placed<'a, 'v: 'a>(&'a self, volume: &'v [u8]) -> impl Iterator<Item = Placed<'v>> + 'a {
         self.pages.iter().flat_map(move |&page| {
             let start = page * PAGE_BYTES;
             let end = if page == self.tail / PAGE_BYTES {
@@ -183,9 +227,69 @@ impl Log {
             } else {
                 start + FOOTER_OFFSET
             };
-            volume[start as usize..end as usize].chunks_exact(ENTRY_BYTES as usize)
+            let (entries, _) = volume[start as usize..end as usize].as_chunks();
+            (1..).zip(entries).map(move |(number, bytes)| Placed {
+                page,
+                number,
+                bytes,
+            })
         })
     }
+
+    /// Reads the entries of the log of an inode in order; the first wrong one ends the reading.
+    ///
+    /// An entry is judged from its own 64 bytes and the volume's two sizes; its log decides only
+    /// which kinds it may hold.
+    pub(crate) fn read<'a, 'v: 'a>(
+        &'a self,
+        volume: &'v [u8],
+        sizes: Sizes,
+        inode: u64,
+    ) -> impl Iterator<Item = Result<Entry<'v>, Damage>> + 'a {
+        self.placed(volume).map(move |placed| {
+            let damage = |wrong| Damage::Entry {
+                inode,
+                page: placed.page,
+                number: placed.number,
+                wrong,
+            };
+            check_kind(placed.bytes, inode).map_err(damage)?;
+            Entry::read(placed.bytes, sizes).map_err(damage)
+        })
+    }
+}
+
+/// An entry of a log with its place.
+#[derive(Clone, Copy, Debug, PartialEq, Eq)]
+pub struct Placed<'v> {
+    /// The log page.
+    pub page: u64,
+    /// The entry's number in the page, from 1 to 7.
+    pub number: usize,
+    /// The entry's 64 bytes.
+    pub bytes: &'v EntryBytes,
+}
+
+/// The tail modulo 512 is one of 64, 128, .. 448, and the head lies in T+1 to P−1.
+fn check_ends(sizes: Sizes, head: u64, tail: u64) -> Result<(), BadLog> {
+    let within_page = tail % PAGE_BYTES;
+    if within_page == 0 || !within_page.is_multiple_of(ENTRY_BYTES) {
+        return Err(BadLog::Tail { tail });
+    }
+    if !sizes.holds_page(head) {
+        return Err(BadLog::Head { head });
+    }
+    Ok(())
+}
+
+/// The directory has kinds 3 and 4, files 1 and 2.
+fn check_kind(bytes: &EntryBytes, inode: u64) -> Result<(), BadEntry> {
+    let kinds = if inode == DIRECTORY { [3, 4] } else { [1, 2] };
+    let kind = word(bytes, 0);
+    if !kinds.contains(&kind) {
+        return Err(BadEntry::Kind { kind });
+    }
+    Ok(())
 }
 
 /// What a file's log means in the end: its size, and the data page of each mapped file page.
@@ -211,11 +315,13 @@ impl File {
             .filter_map(|(file_page, data_page)| Some((file_page, (*data_page)?)))
     }
 
-    /// Replays a file's log from its entries; `None` if one of them may not stand there.
-    pub fn replay<'v>(entries: impl Iterator<Item = &'v [u8]>, sizes: Sizes) -> Option<File> {
+    /// Replays a file's log from its entries.
+    pub(crate) fn replay<'v>(
+        entries: impl Iterator<Item = Result<Entry<'v>, Damage>>,
+    ) -> Result<File, Damage> {
         let mut file = File::default();
-        for bytes in entries {
-            match Entry::read(bytes, sizes)? {
+        for entry in entries {
+            match entry? {
                 Entry::Write {
                     file_page,
                     data_page,
@@ -229,10 +335,11 @@ impl File {
                     file.pages.truncate(size.div_ceil(PAGE_BYTES) as usize);
                     file.size = size;
                 }
-                Entry::Add { .. } | Entry::Remove { .. } => return None,
+                // No kind of a file's log.
+                Entry::Add { .. } | Entry::Remove { .. } => {}
             }
         }
-        Some(file)
+        Ok(file)
     }
 
     fn map_pages(&mut self, file_page: usize, data_page: u64, count: usize) {
@@ -248,26 +355,25 @@ impl File {
 
 /// Replays the directory's log: the list of names with inodes that stand in the end, in order.
 ///
-/// `None` if an entry may not stand in the directory. In the middle of the log any count of names
-/// may stand.
-pub fn replay_names<'v>(
-    entries: impl Iterator<Item = &'v [u8]>,
-    sizes: Sizes,
-) -> Option<Vec<(&'v [u8], u64)>> {
+/// In the middle of the log any count of names may stand.
+pub(crate) fn replay_names<'v>(
+    entries: impl Iterator<Item = Result<Entry<'v>, Damage>>,
+) -> Result<Vec<(&'v [u8], u64)>, Damage> {
     let mut list = Vec::new();
     let mut places: HashMap<&[u8], usize> = HashMap::new();
-    for bytes in entries {
-        let earlier = match Entry::read(bytes, sizes)? {
+    for entry in entries {
+        let earlier = match entry? {
             Entry::Add { inode, name } => {
                 list.push(Some((name, inode)));
                 places.insert(name, list.len() - 1)
             }
             Entry::Remove { name } => places.remove(name),
-            Entry::Write { .. } | Entry::SetSize { .. } => return None,
+            // No kind of the directory's log.
+            Entry::Write { .. } | Entry::SetSize { .. } => None,
         };
         if let Some(place) = earlier {
             list[place] = None;
         }
     }
-    Some(list.into_iter().flatten().collect())
+    Ok(list.into_iter().flatten().collect())
 }

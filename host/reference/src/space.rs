@@ -1,6 +1,7 @@
 //! The free pages that a call may take.
 
-use crate::accept::{Use, Volume};
+use crate::accept::Volume;
+use crate::uses::Use;
 use crate::Refusal;
 
 /// The pages still free to a call. Pages that the call lets go are not among them.

@@ -58,7 +58,7 @@ module _ (u : Mem) (P N : ℕ) where
       let r = lowest-is (λ k. not (isValid u k)) (N - 1) 1 i e in
       (not-true (isValid u i) (r .holds), r .from, omega (arith, r .from, r .below))
 
-  new-inode : newInode N (mapOf u P N) ≡ orElse (invalidInode u P N) 0
+  pub new-inode : newInode N (mapOf u P N) ≡ orElse (invalidInode u P N) 0
   unfolding newInode invalidInode mapOf
   new-inode =
       ap (λ x. orElse x 0) (lowest-same _ _ (N - 1) 1 (λ k a b.

@@ -1,4 +1,5 @@
-//! Store lists for carry out: all are judged before the first store.
+//! Store lists for carry out: all are judged before the first store. Their groups, and the numbers
+//! of the layout.
 
 use crate::compare::{any_list, Compared, Counts};
 use reference::FENCE;
@@ -12,6 +13,7 @@ fn random_lists() {
     let words = volume.len() as u64 / 8;
     for _ in 0..30_000 {
         let list = any_list(&mut random, words);
+        assert_eq!(calls::list::groups(&list), reference::groups(&list));
         let mut compared = Compared::new(&volume, 0, &mut counts);
         compared.carry_out(&list, list.len() as u64);
         compared.carry_out(&list, random.below(list.len() as u64 + 3));
@@ -64,4 +66,21 @@ fn lists_on_any_bytes() {
         compared.free_count();
     }
     counts.reached(&["carry_out"], &[0, 2], 3);
+}
+
+/// The numbers that programs take from the crate of the compiled calls are the reference model's.
+#[test]
+fn numbers_of_the_layout() {
+    use calls::layout as ours;
+    use reference::layout as model;
+    assert_eq!(calls::list::FENCE, FENCE);
+    assert_eq!(ours::LIST_WORDS, model::LIST_WORDS);
+    assert_eq!(ours::PAGE_BYTES, model::PAGE_BYTES);
+    assert_eq!(ours::WORD_BYTES * model::PAGE_WORDS, model::PAGE_BYTES);
+    assert_eq!(ours::DIRECTORY, model::DIRECTORY);
+    assert_eq!(ours::SIZE_LIMIT, model::SIZE_LIMIT);
+    assert_eq!(ours::WRITE_LIMIT, model::WRITE_LIMIT);
+    assert_eq!(ours::NAME_BYTES, model::NAME_BYTES);
+    let sizes = |pages: u64| model::Sizes::new((512 * pages) as usize, pages, 8);
+    assert!(sizes(ours::PAGE_LIMIT).is_ok() && sizes(ours::PAGE_LIMIT + 1).is_err());
 }

@@ -4,8 +4,9 @@ use super::{names, open, PART};
 use crate::arguments::Arguments;
 use crate::failure::{refused, Failure, Outcome};
 use crate::show;
-use crate::store::{Store, VOLUME_LIMIT};
+use crate::store::Store;
 use crate::text::{counted, say, shown_name};
+use calls::layout::VOLUME_LIMIT;
 use refusal::Refusal;
 
 /// Says the verdict of the compiled call.

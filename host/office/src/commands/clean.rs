@@ -5,7 +5,7 @@ use crate::arguments::Arguments;
 use crate::failure::{refused, Failure, Outcome};
 use crate::store::Store;
 use crate::text::{complain, say, thousands};
-use reference::layout::DIRECTORY;
+use calls::layout::DIRECTORY;
 use refusal::Refusal;
 use std::collections::BTreeSet;
 use std::os::unix::ffi::OsStrExt;

@@ -5,6 +5,7 @@ use crate::failure::{Failure, Outcome};
 use crate::files::write_whole;
 use crate::store::{open_locked, Mode};
 use crate::text::{say, shown_path, thousands};
+use calls::layout::{PAGE_BYTES, PAGE_LIMIT};
 use std::fs::File;
 use std::path::Path;
 
@@ -25,7 +26,7 @@ pub fn run(arguments: &Arguments) -> Outcome {
 /// An empty volume of these sizes, and its count of free pages.
 fn formatted(pages: u64, inodes: u64) -> Result<(Vec<u8>, u64), Failure> {
     // One page too many is as wrong as a million, and is refused as well.
-    let mut volume = vec![0; pages.min(4_097) as usize * 512];
+    let mut volume = vec![0; (pages.min(PAGE_LIMIT + 1) * PAGE_BYTES) as usize];
     let free = calls::format(&mut volume, pages, inodes)
         .and_then(|()| calls::free_count(&volume))
         .map_err(|refusal| Failure::Refused {

@@ -6,7 +6,7 @@ use crate::failure::{Failure, Outcome};
 use crate::files::{in_the_way, write_whole};
 use crate::show;
 use crate::text::{print, shown_name};
-use reference::layout::DIRECTORY;
+use calls::layout::DIRECTORY;
 use refusal::Refusal;
 use std::env;
 use std::io::{self, IsTerminal};

@@ -15,6 +15,7 @@ use crate::failure::{Failure, Outcome};
 use crate::help::{of_command, overview, Command};
 use crate::store::{Mode, Store};
 use crate::text::{print, shown_name, shown_path};
+use calls::layout::NAME_BYTES;
 use refusal::Refusal;
 use std::ffi::{OsStr, OsString};
 use std::io::{self, Write};
@@ -82,7 +83,7 @@ fn names(store: &Store) -> Result<Vec<Vec<u8>>, Failure> {
 fn names_of(volume: &[u8]) -> Result<Vec<Vec<u8>>, Refusal> {
     let mut names = Vec::new();
     loop {
-        let mut name = vec![0; 32];
+        let mut name = vec![0; NAME_BYTES];
         match calls::kth_name(volume, names.len() as u64, &mut name) {
             Ok(length) => name.truncate(length as usize),
             Err(Refusal::NotThere) => return Ok(names),

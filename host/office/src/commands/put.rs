@@ -7,7 +7,7 @@ use crate::files::{Source, Sources};
 use crate::progress::Progress;
 use crate::store::{Plan, Store};
 use crate::text::{complain, counted, say, shown_name};
-use reference::layout::WRITE_LIMIT;
+use calls::layout::WRITE_LIMIT;
 use refusal::Refusal;
 use std::ffi::OsString;
 use std::os::unix::ffi::OsStrExt;

@@ -4,7 +4,7 @@ use super::{open_to_change, remove_part, PART};
 use crate::arguments::Arguments;
 use crate::failure::Outcome;
 use crate::text::{counted, say, shown_name};
-use reference::groups;
+use calls::list::groups;
 
 /// Recovers the volume and says what was done.
 pub fn run(arguments: &Arguments) -> Outcome {

@@ -1,37 +1,14 @@
-//! An inode's log: its entries with their places, and the log in words.
+//! An inode's log in words, its entries with their places.
 
 use super::pages::names_of;
 use super::words::{counted, put_back, quoted, quoted_names, range};
 use reference::layout::DIRECTORY;
-use reference::{Entry, Log, Volume};
-
-/// A log page has seven entries.
-const ENTRIES: usize = 7;
-
-/// An entry of a log: its page, its number there from 1 on, and its 64 bytes.
-pub(super) struct Placed<'v> {
-    pub(super) page: u64,
-    pub(super) number: usize,
-    pub(super) bytes: &'v [u8],
-}
-
-/// The entries of a log in order, from the head to just before the tail.
-///
-/// The log's pages lie inside the volume.
-pub(super) fn placed<'v>(volume: &'v [u8], log: &Log) -> Vec<Placed<'v>> {
-    let entries = log.entries(volume).enumerate();
-    let placed = entries.map(|(index, bytes)| Placed {
-        page: log.pages[index / ENTRIES],
-        number: index % ENTRIES + 1,
-        bytes,
-    });
-    placed.collect()
-}
+use reference::{Entry, Log, Placed, Volume};
 
 /// The log of an inode in words; none if the inode is not valid.
 pub(super) fn text(volume: &Volume<'_>, inode: u64) -> Option<String> {
     let log = volume.logs.get(&inode)?;
-    let entries = placed(volume.bytes, log);
+    let entries: Vec<Placed<'_>> = log.placed(volume.bytes).collect();
     let mut lines = vec![head_line(volume, inode, log, entries.len())];
     lines.extend(put_back(&volume.journal.open));
     lines.extend(entries.iter().map(|entry| entry_line(volume, entry)));
@@ -65,8 +42,8 @@ fn inode_text(volume: &Volume<'_>, inode: u64) -> String {
 
 fn entry_line(volume: &Volume<'_>, entry: &Placed<'_>) -> String {
     let text = match Entry::read(entry.bytes, volume.sizes) {
-        Some(read) => entry_text(&read),
-        None => "no entry".to_string(),
+        Ok(read) => entry_text(&read),
+        Err(_) => "no entry".to_string(),
     };
     format!("page {}, entry {}: {text}", entry.page, entry.number)
 }

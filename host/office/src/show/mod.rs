@@ -1,8 +1,9 @@
 //! What a volume looks like: why it is refused, a map of its pages, the entries of a log.
 //!
-//! Every function here takes the bytes of a volume, of any length and content, and answers a text. Nothing
-//! is stored. Whether a volume is accepted is always asked of the compiled calls; only the words come from
-//! here. Everything is read with the journal's open entries put back, and a text that does so says it.
+//! Every function here takes the bytes of a volume, of any length and content, and answers a text.
+//! Nothing is stored. Whether a volume is accepted is always asked of the compiled calls; what the
+//! texts say is read by the reference model. Everything is read with the journal's open entries put
+//! back, and a text that does so says it.
 //!
 //! ```
 //! use calls::{carry_out, create, format, Refusal};
@@ -28,8 +29,8 @@ mod colour;
 mod log;
 mod map;
 mod pages;
+mod picture;
 mod reason;
-mod svg;
 mod table;
 mod words;
 
@@ -38,8 +39,9 @@ use refusal::Refusal;
 
 /// Why a volume is refused, in words; none if it is accepted and its journal is closed.
 ///
-/// The verdict is that of `calls::free_count`. The words say the first thing that is wrong, in the order
-/// of document 01's section "An accepted volume", with its place; for an open journal, the open entries.
+/// The verdict is that of `calls::free_count`. The words say what the reference model finds wrong,
+/// one thing with its place; for an open journal, the open entries. Where the model does not come
+/// to the same refusal, they say that the reason is not known.
 ///
 /// ```
 /// let mut volume = vec![0; 16 * 512];
@@ -51,13 +53,10 @@ use refusal::Refusal;
 /// );
 /// ```
 pub fn reason(volume: &[u8]) -> Option<String> {
-    let found = match calls::free_count(volume).err()? {
-        Refusal::NoVolume => reason::no_volume(volume),
-        Refusal::Damaged => reason::damage(volume),
-        Refusal::JournalOpen => reason::open_journal(volume),
-        _ => None,
-    };
-    Some(found.unwrap_or_else(|| "for a reason that this tool does not know".to_string()))
+    let verdict = calls::free_count(volume).err()?;
+    let found = reason::found(volume).filter(|(refusal, _)| *refusal == verdict);
+    let unknown = || "for a reason that this tool does not know".to_string();
+    Some(found.map_or_else(unknown, |(_, words)| words))
 }
 
 /// Draws the pages of a volume as text: a grid with one cell per page, a table of the valid inodes with
@@ -103,7 +102,7 @@ pub fn map_text(volume: &[u8], width: usize, colour: bool) -> Result<String, Ref
 /// assert!(picture.contains("<title>page 2: free</title>"));
 /// ```
 pub fn map_svg(volume: &[u8]) -> Result<String, Refusal> {
-    Ok(svg::picture(&accepted(volume)?))
+    Ok(picture::svg(&accepted(volume)?))
 }
 
 /// The log of a valid inode in words: a line about the inode, then one line per entry.

@@ -1,77 +1,34 @@
-//! Why a volume is refused: document 01's section "An accepted volume", read sentence by sentence.
-//!
-//! Each check answers what it read, or in words what is wrong there. The first wrong thing ends the
-//! reading. The journal comes first, since all else is read with its open entries put back; then the
-//! inode table, the logs and their pages, the entries, the names, the mapped pages, the ends of the files.
+//! Why a volume is refused, in words: a sentence for each thing that the reference model can find
+//! wrong.
 
-mod entries;
-mod files;
-mod header;
-mod inodes;
-mod journal;
-mod logs;
-mod names;
-mod pages;
+use super::pages::use_text;
+use super::words::{inode_word, open_entries, quoted};
+use reference::layout::{
+    DIRECTORY, FILE_PAGES, NAME_BYTES, NAME_LIMIT, OPEN_LIMIT, PAGE_BYTES, SIZE_LIMIT,
+};
+use reference::{examine, BadEntry, BadJournal, BadLog, BadNames, Damage, Fault, NoVolume};
+use refusal::Refusal;
 
-use super::words;
-use pages::Pages;
-use reference::layout::{word, Sizes};
-use reference::OpenEntry;
-
-/// What a check answers: what it read, or what is wrong, in words.
-type Checked<T> = Result<T, String>;
-
-/// A volume with a good header and a good journal.
-struct View<'v> {
-    bytes: &'v [u8],
-    sizes: Sizes,
-    open: Vec<OpenEntry>,
-}
-
-impl View<'_> {
-    /// A word, read with the journal's open entries put back.
-    fn word(&self, index: u64) -> u64 {
-        let open = self.open.iter().find(|entry| entry.target == index);
-        open.map_or_else(|| word(self.bytes, index), |entry| entry.old)
+/// What the reference model finds on a volume: its refusal, and why, in words; none if it is
+/// accepted and its journal is closed.
+pub(super) fn found(volume: &[u8]) -> Option<(Refusal, String)> {
+    match examine(volume) {
+        Ok(volume) => {
+            let open = &volume.journal.open;
+            (!open.is_empty()).then(|| (Refusal::JournalOpen, open_entries(open)))
+        }
+        Err(fault) => {
+            let words = fault_text(&fault);
+            Some((fault.into(), words))
+        }
     }
 }
 
-/// Why a slice is no volume; none if its length and words 0 to 2 are good.
-pub(super) fn no_volume(volume: &[u8]) -> Option<String> {
-    header::check(volume).err()
-}
-
-/// What is damaged on a volume with a good header; none if nothing is.
-pub(super) fn damage(volume: &[u8]) -> Option<String> {
-    let sizes = Sizes::of(volume).ok()?;
-    let open = match journal::open_entries(volume, sizes) {
-        Ok(open) => open,
-        Err(wrong) => return Some(wrong),
-    };
-    let bytes = volume;
-    let view = View { bytes, sizes, open };
-    let wrong = check(&view).err()?;
-    Some(wrong + &read_put_back(view.open.len()))
-}
-
-/// The open entries of a volume with a good header and a good journal; none if the journal is closed.
-pub(super) fn open_journal(volume: &[u8]) -> Option<String> {
-    let sizes = Sizes::of(volume).ok()?;
-    let open = journal::open_entries(volume, sizes).ok()?;
-    (!open.is_empty()).then(|| words::open_entries(&open))
-}
-
-/// Reads all but the header and the journal.
-fn check(view: &View<'_>) -> Checked<()> {
-    let valid = inodes::valid(view)?;
-    let logs = logs::walks(view, &valid)?;
-    let mut pages = Pages::unused(view.sizes);
-    pages.serve_logs(&logs)?;
-    let names = entries::names(view, &logs)?;
-    let files = entries::files(view, &logs)?;
-    names::check(&names, &valid)?;
-    pages.serve_files(&files)?;
-    files::ends(view, &files)
+fn fault_text(fault: &Fault) -> String {
+    match fault {
+        Fault::NoVolume(why) => no_volume(why),
+        Fault::Damaged { damage, put_back } => damage_text(damage) + &read_put_back(*put_back),
+    }
 }
 
 /// What is said behind a wrong thing that was read with so many open entries put back.
@@ -83,23 +40,172 @@ fn read_put_back(open: usize) -> String {
     }
 }
 
+fn no_volume(why: &NoVolume) -> String {
+    match why {
+        NoVolume::Short { length } => {
+            format!("the file has {length} bytes, too few for words 0 to 2")
+        }
+        NoVolume::PageCount { pages } => {
+            format!("word 0 is {pages}, not a page count from 16 to 4096")
+        }
+        NoVolume::InodeCount { inodes } => {
+            format!("word 1 is {inodes}, not an inode count, a multiple of 8 from 8 to 256")
+        }
+        NoVolume::FewPages {
+            pages,
+            inodes,
+            least,
+        } => {
+            format!("word 0 says {pages} pages, but {inodes} inodes (word 1) need at least {least}")
+        }
+        NoVolume::Length { length, pages } => {
+            let bytes = pages * PAGE_BYTES;
+            format!("the file has {length} bytes, but word 0 says {pages} pages, {bytes} bytes")
+        }
+        NoVolume::FormatWord { value } => format!("word 2 is {value}, not 1"),
+    }
+}
+
+fn damage_text(damage: &Damage) -> String {
+    match damage {
+        Damage::Journal(wrong) => journal(wrong),
+        Damage::NoDirectory => "inode 0, the directory, is not valid".to_string(),
+        Damage::ValidWord { inode, value } => {
+            format!("inode {inode}: its valid word is {value}, not 0 or 1")
+        }
+        Damage::Log { inode, wrong } => format!("inode {inode}: its {}", log(wrong)),
+        Damage::Entry {
+            inode,
+            page,
+            number,
+            wrong,
+        } => {
+            let wrong = entry(wrong, *inode);
+            format!("inode {inode}, log page {page}, entry {number}: {wrong}")
+        }
+        Damage::Names(wrong) => names(wrong),
+        Damage::ServesTwice { page, uses } => {
+            let [one, other] = uses.map(use_text);
+            format!("page {page} serves twice: {one} and {other}")
+        }
+        Damage::PastSize {
+            inode,
+            file_page,
+            size,
+        } => {
+            let mapped = format!("file page {file_page} is mapped");
+            format!("inode {inode}: {mapped} and starts at or after the size {size}")
+        }
+        Damage::NotZero {
+            inode,
+            byte,
+            file_page,
+            data_page,
+            size,
+        } => {
+            let place = format!("byte {byte} (file page {file_page}, data page {data_page})");
+            format!("inode {inode}: {place} is not 0, but the size is {size}")
+        }
+    }
+}
+
+fn journal(wrong: &BadJournal) -> String {
+    let out = |which, number| format!("the journal's {which} position is {number}, not below 16");
+    match wrong {
+        BadJournal::Dequeue { position } => out("dequeue", position),
+        BadJournal::Enqueue { position } => out("enqueue", position),
+        BadJournal::ManyOpen { count } => {
+            format!("{count} journal entries are open, more than {OPEN_LIMIT}")
+        }
+        BadJournal::Target { position, target } => {
+            let entry = format!("the open journal entry at position {position}");
+            format!("{entry} has target word {target}, no valid, head or tail word of an inode")
+        }
+        BadJournal::OneTarget { positions, target } => {
+            let ([one, other], use_of) = (positions, inode_word(*target));
+            let entries = format!("the open journal entries at positions {one} and {other}");
+            format!("{entries} have one target, word {target} ({use_of})")
+        }
+    }
+}
+
+/// What is wrong with a log, behind "its".
+fn log(wrong: &BadLog) -> String {
+    match wrong {
+        BadLog::Tail { tail } => {
+            let within = tail % PAGE_BYTES;
+            format!("tail {tail} is {within} modulo 512, none of 64, 128, .. 448")
+        }
+        BadLog::Head { head } => {
+            format!("log starts outside the log and data pages (head {head})")
+        }
+        BadLog::Footer { page, next } => {
+            format!("log leaves the log and data pages at page {page} (footer {next})")
+        }
+        BadLog::Endless { page, next, last } => {
+            let goes_back = format!("log goes back to page {next} at page {page}");
+            format!("{goes_back} and never reaches its tail's page {last}")
+        }
+    }
+}
+
+/// What is wrong with an entry of an inode's log.
+fn entry(wrong: &BadEntry, inode: u64) -> String {
+    match wrong {
+        BadEntry::Kind { kind } => {
+            let whose = if inode == DIRECTORY {
+                "the directory"
+            } else {
+                "a file"
+            };
+            format!("kind {kind} is none of {whose}'s")
+        }
+        BadEntry::Size { size } => format!("size {size} is over {SIZE_LIMIT}"),
+        BadEntry::Count { count } => format!("page count {count} is not 1 to {FILE_PAGES}"),
+        BadEntry::FilePages { first, count } => {
+            format!("the file pages from {first} on, {count} of them, end above {FILE_PAGES}")
+        }
+        BadEntry::DataPages {
+            first,
+            count,
+            allowed: [lowest, highest],
+        } => {
+            let pages = format!("the data pages from {first} on, {count} of them,");
+            format!("{pages} do not all lie in pages {lowest} to {highest}")
+        }
+        BadEntry::AddedInode { inode, last } => {
+            format!("the added inode {inode} is not 1 to {last}")
+        }
+        BadEntry::NameLength { length } => {
+            format!("name length {length} is not 1 to {NAME_BYTES}")
+        }
+        BadEntry::NameByte { name, byte } => format!("the name {} has byte {byte}", quoted(name)),
+        BadEntry::AfterName { name } => {
+            format!("the bytes after the name {} are not all 0", quoted(name))
+        }
+    }
+}
+
+fn names(wrong: &BadNames) -> String {
+    match wrong {
+        BadNames::Many { count } => format!("{count} names stand, more than {NAME_LIMIT}"),
+        BadNames::NoFile { name, inode } => {
+            let name = quoted(name);
+            format!("the name {name} leads to inode {inode}, which is not valid")
+        }
+        BadNames::NoName { inode } => format!("inode {inode} is valid and has no name"),
+    }
+}
+
 #[cfg(test)]
 mod tests {
-    use super::{damage, no_volume, open_journal};
-    use refusal::Refusal;
+    use super::found;
     use samples::{change_live_word, flip_live_bit, live_words, made_up, used_volume, Random};
 
-    /// Holds the reading by itself, without the verdict, against the compiled call.
+    /// Holds the reference model's refusal, without the verdict, against the compiled call.
     fn same_verdict(volume: &[u8]) {
-        let expected = calls::free_count(volume).err();
-        let found = [no_volume, damage, open_journal].map(|reading| reading(volume).is_some());
-        let verdict = match found {
-            [true, ..] => Some(Refusal::NoVolume),
-            [_, true, _] => Some(Refusal::Damaged),
-            [_, _, true] => Some(Refusal::JournalOpen),
-            _ => None,
-        };
-        assert_eq!(verdict, expected);
+        let refusal = found(volume).map(|(refusal, _)| refusal);
+        assert_eq!(refusal, calls::free_count(volume).err());
     }
 
     #[test]

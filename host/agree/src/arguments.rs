@@ -1,0 +1,67 @@
+//! Arguments, at random, that are often about what stands on a volume.
+
+use reference::{judge, map, FileMap};
+use samples::{any_name, any_number, Random};
+
+const NAMES: [&[u8]; 4] = [b"a", b"b", b"A1", b"long name of thirty-two bytes .."];
+
+/// The file map of a volume; an empty one where it is not accepted.
+pub fn standing(volume: &[u8]) -> FileMap {
+    judge(volume).map_or_else(|_| FileMap::default(), |judged| map(&judged))
+}
+
+/// A name: mostly one that stands, if there is one.
+pub fn old_name(map: &FileMap, random: &mut Random) -> Vec<u8> {
+    match random.choose(&map.names) {
+        Some((name, _)) if !random.once_in(4) => name.clone(),
+        _ => new_name(random),
+    }
+}
+
+/// One of a few names, or bytes that are often no name.
+pub fn new_name(random: &mut Random) -> Vec<u8> {
+    if random.once_in(4) {
+        return any_name(random);
+    }
+    random
+        .choose(&NAMES)
+        .map_or(Vec::new(), |name| name.to_vec())
+}
+
+/// An inode: mostly one of a file, if there is one.
+pub fn inode(map: &FileMap, random: &mut Random) -> u64 {
+    let files: Vec<u64> = map.files.keys().copied().collect();
+    match random.choose(&files) {
+        Some(&inode) if !random.once_in(6) => inode,
+        _ => match random.once_in(2) {
+            true => random.below(17),
+            false => any_number(random),
+        },
+    }
+}
+
+/// An offset or a size: near the file's own size, inside a few pages, or any number.
+pub fn offset(map: &FileMap, inode: u64, random: &mut Random) -> u64 {
+    let size = map.files.get(&inode).map_or(0, |bytes| bytes.len() as u64);
+    match random.below(6) {
+        0 => size,
+        1 => (size + random.below(6)).saturating_sub(3),
+        2 => any_number(random),
+        3 => 65_536 - random.below(40),
+        _ => random.below(1_600),
+    }
+}
+
+/// Bytes to write. Those of a long write are all the same, so that they are quick to read.
+pub fn data(random: &mut Random) -> Vec<u8> {
+    let byte = random.number() as u8;
+    match random.below(10) {
+        0 => Vec::new(),
+        1 => vec![byte; random.between(4_097, 4_200) as usize],
+        2 => vec![byte; random.between(500, 1_100) as usize],
+        _ => {
+            let length = random.below(40) as usize;
+            random.bytes(length)
+        }
+    }
+}

@@ -1,0 +1,205 @@
+//! The strata: pairs of a call and what it comes to.
+
+use crate::outcome::Outcome;
+use crate::sheet::Sheet;
+use crate::storing::Spoiled;
+use crate::{changing, maps, reading, storing};
+use samples::Random;
+
+/// A draw: a sheet with this name, where what was drawn comes to the stratum's outcome.
+type Draw = Box<dyn Fn(&str, &mut Random) -> Option<Sheet>>;
+
+/// A stratum.
+pub struct Stratum {
+    /// The call, or what else is asked about.
+    pub call: &'static str,
+    /// What it comes to, where it is a call.
+    pub outcome: Option<Outcome>,
+    /// What tells it from the other strata of the same call and outcome; often nothing.
+    pub detail: &'static str,
+    draw: Draw,
+}
+
+impl Stratum {
+    /// The stratum of a call and an outcome.
+    fn new(
+        call: &'static str,
+        outcome: Outcome,
+        draw: impl Fn(&str, &mut Random) -> Option<Sheet> + 'static,
+    ) -> Stratum {
+        Stratum {
+            call,
+            outcome: Some(outcome),
+            detail: "",
+            draw: Box::new(draw),
+        }
+    }
+
+    /// A stratum of something that is no call.
+    pub fn besides(
+        what: &'static str,
+        detail: &'static str,
+        draw: impl Fn(&str, &mut Random) -> Option<Sheet> + 'static,
+    ) -> Stratum {
+        Stratum {
+            call: what,
+            outcome: None,
+            detail,
+            draw: Box::new(draw),
+        }
+    }
+
+    /// The same with a detail.
+    fn with(self, detail: &'static str) -> Stratum {
+        Stratum { detail, ..self }
+    }
+
+    /// The stratum's name, as equations have it: `create-7`, `carry-out-13-odd-count`.
+    pub fn name(&self) -> String {
+        let outcome = self
+            .outcome
+            .map_or(String::new(), |outcome| outcome.to_string());
+        let words = [self.call, &outcome, self.detail].join(" ");
+        let words: Vec<&str> = words.split_whitespace().collect();
+        words.join("-")
+    }
+
+    /// Draws once.
+    pub fn draw(&self, name: &str, random: &mut Random) -> Option<Sheet> {
+        (self.draw)(name, random)
+    }
+}
+
+/// All strata.
+pub fn strata() -> Vec<Stratum> {
+    let mut all = of_changing();
+    all.extend(of_reading());
+    all.extend(of_storing());
+    all.extend(of_cuts());
+    all.extend(of_maps());
+    all
+}
+
+/// Done, and each of these refusals.
+fn outcomes(refusals: &[u64]) -> Vec<Outcome> {
+    let mut all = vec![Outcome::Done];
+    all.extend(refusals.iter().map(|&number| Outcome::Refused(number)));
+    all
+}
+
+/// The eight calls that fill a list.
+fn of_changing() -> Vec<Stratum> {
+    let mut all = Vec::new();
+    for kind in changing::Kind::ALL {
+        let (call, refusals) = kind.told();
+        let mut asked = outcomes(refusals);
+        if kind.may_change_nothing() {
+            asked.push(Outcome::Unchanged);
+        }
+        for outcome in asked {
+            let draw = move |name: &str, random: &mut Random| {
+                changing::changing(kind, outcome, name, random)
+            };
+            all.push(Stratum::new(call, outcome, draw));
+        }
+        let draw = move |name: &str, random: &mut Random| changing::filling(kind, name, random);
+        all.push(Stratum::new(call, Outcome::Done, draw).with("by bytes"));
+    }
+    all
+}
+
+/// The five reading calls and volume-list.
+fn of_reading() -> Vec<Stratum> {
+    let mut all = Vec::new();
+    for kind in reading::Kind::ALL {
+        let (call, refusals) = kind.told();
+        for outcome in outcomes(refusals) {
+            let draw = move |name: &str, random: &mut Random| {
+                reading::reading(kind, outcome, name, random)
+            };
+            all.push(Stratum::new(call, outcome, draw));
+        }
+        let draw = move |name: &str, random: &mut Random| reading::buffer(kind, name, random);
+        all.push(Stratum::new(call, Outcome::Done, draw).with("by bytes"));
+    }
+    for kind in [reading::Kind::Read, reading::Kind::KthName] {
+        let draw = move |name: &str, random: &mut Random| reading::kept_buffer(kind, name, random);
+        all.push(Stratum::new(kind.told().0, Outcome::Refused(6), draw).with("by bytes"));
+    }
+    let longer = Stratum::new("volume-list", Outcome::Refused(2), reading::long_listing);
+    all.push(longer.with("longer"));
+    all
+}
+
+/// Format and carry out, which store on a volume.
+fn of_storing() -> Vec<Stratum> {
+    let mut all = Vec::new();
+    for outcome in [Outcome::Done, Outcome::Refused(2)] {
+        let draw =
+            move |name: &str, random: &mut Random| storing::formatting(outcome, name, random);
+        all.push(Stratum::new("format", outcome, draw));
+    }
+    let lists = [
+        (Outcome::Done, Spoiled::Good, ""),
+        (Outcome::Unchanged, Spoiled::Good, ""),
+        (Outcome::Refused(2), Spoiled::Good, ""),
+        (Outcome::Refused(13), Spoiled::OddCount, "odd count"),
+        (
+            Outcome::Refused(13),
+            Spoiled::LongCount,
+            "count over the list",
+        ),
+        (
+            Outcome::Refused(13),
+            Spoiled::IndexPast,
+            "index past the volume",
+        ),
+        (
+            Outcome::Refused(13),
+            Spoiled::FenceValue,
+            "fence with a value",
+        ),
+        (
+            Outcome::Refused(13),
+            Spoiled::NoLastFence,
+            "no fence at the end",
+        ),
+    ];
+    for (outcome, spoiled, detail) in lists {
+        let draw = move |name: &str, random: &mut Random| {
+            storing::carrying(outcome, spoiled, name, random)
+        };
+        all.push(Stratum::new("carry out", outcome, draw).with(detail));
+    }
+    all
+}
+
+/// What the power leaves: a cut in each group of a list with and without a journal, a cut behind
+/// the last group, and no cut.
+fn of_cuts() -> Vec<Stratum> {
+    let cuts = [
+        ("in group 0 of 4", 4, Some(0)),
+        ("in group 1 of 4", 4, Some(1)),
+        ("in group 2 of 4", 4, Some(2)),
+        ("in group 3 of 4", 4, Some(3)),
+        ("in group 0 of 2", 2, Some(0)),
+        ("in group 1 of 2", 2, Some(1)),
+        ("behind the last group", 4, Some(4)),
+        ("nowhere", 4, None),
+    ];
+    let draw = |count, group| {
+        move |name: &str, random: &mut Random| storing::power(count, group, name, random)
+    };
+    cuts.into_iter()
+        .map(|(detail, count, group)| Stratum::besides("cut", detail, draw(count, group)))
+        .collect()
+}
+
+/// The file map after each call.
+fn of_maps() -> Vec<Stratum> {
+    let draw = |kind| move |name: &str, random: &mut Random| maps::after(kind, name, random);
+    changing::Kind::ALL
+        .into_iter()
+        .map(|kind| Stratum::besides("map after", kind.told().0, draw(kind)))
+        .collect()
+}

@@ -1,0 +1,200 @@
+//! Volumes, at random, each brought towards an outcome. Whether it came about is for the reference
+//! to say: what is drawn here is only likely.
+//!
+//! They have 16 to 20 pages, so that an equation about one is computed in about a second.
+
+use crate::outcome::Outcome;
+use reference::layout::{set_word, word};
+use reference::{cut, format, free_count, groups, land, Call};
+use samples::{
+    any_call, any_number, change_live_word, create, entry_add, filled, flip_live_bit, formatted,
+    headed_noise, live_words, made_up_sized, map_of, put_log, random_cut, run, write, Random,
+};
+
+/// A volume on which a call may well come to this.
+pub fn towards(outcome: Outcome, random: &mut Random) -> Vec<u8> {
+    match outcome {
+        Outcome::Refused(1) => any(random),
+        Outcome::Refused(2) => unheaded(random),
+        Outcome::Refused(3) => damaged(random),
+        Outcome::Refused(4) => left_open(random),
+        Outcome::Refused(11) => full_directory(random),
+        Outcome::Refused(12) => crowded(random),
+        _ => used(random),
+    }
+}
+
+/// A volume of any kind.
+pub fn any(random: &mut Random) -> Vec<u8> {
+    match random.below(6) {
+        0 => unheaded(random),
+        1 => damaged(random),
+        2 => left_open(random),
+        3 => crowded(random),
+        _ => used(random),
+    }
+}
+
+/// A page count and an inode count that go together.
+pub fn sizes(random: &mut Random) -> (u64, u64) {
+    let inodes = if random.once_in(4) { 16 } else { 8 };
+    (random.between(16, 20), inodes)
+}
+
+/// Bytes for so many pages: all the same, or at random.
+pub fn blank(pages: u64, random: &mut Random) -> Vec<u8> {
+    let length = pages as usize * 512;
+    match random.once_in(4) {
+        true => random.bytes(length),
+        false => vec![random.number() as u8; length],
+    }
+}
+
+/// A volume that calls have changed, or one put together at random.
+pub fn used(random: &mut Random) -> Vec<u8> {
+    let (pages, inodes) = sizes(random);
+    if random.once_in(4) {
+        return made_up_sized(random, pages, inodes);
+    }
+    let mut volume = blank(pages, random);
+    format(&mut volume, pages, inodes).expect("the sizes are allowed");
+    for _ in 0..random.between(1, 24) {
+        change(&mut volume, random);
+    }
+    volume
+}
+
+/// Makes a call on an accepted volume, whole or cut and recovered.
+fn change(volume: &mut [u8], random: &mut Random) {
+    let call = any_call(random, word(volume, 1), &map_of(volume));
+    let Ok(list) = filled(volume, &call) else {
+        return;
+    };
+    if !list.is_empty() && random.once_in(8) {
+        random_cut(random, volume, &list);
+        run(volume, &Call::Recover).expect("the volume is accepted");
+    } else {
+        land(volume, &list);
+    }
+}
+
+/// A volume with one or two names, quick to read even byte by byte.
+pub fn young(random: &mut Random) -> Vec<u8> {
+    let mut volume = formatted(16, 8);
+    for name in [b"a", b"b"].into_iter().take(random.between(1, 2) as usize) {
+        run(&mut volume, &create(name)).expect("there is room for two names");
+    }
+    volume
+}
+
+/// A young volume with a few bytes written at the end of a page: of the zeros behind a file's end,
+/// all of which are judged, there are few.
+pub fn young_written(random: &mut Random) -> Vec<u8> {
+    let mut volume = young(random);
+    let length = random.between(4, 20);
+    let bytes = random.bytes(length as usize);
+    let offset = 512 - length - random.below(8);
+    run(&mut volume, &write(1, offset, &bytes)).expect("there is room for a few bytes");
+    volume
+}
+
+/// A volume whose journal a cut left open.
+fn left_open(random: &mut Random) -> Vec<u8> {
+    let mut volume = used(random);
+    if !free_count(&volume).is_ok_and(|free| free > 0) {
+        return volume;
+    }
+    cut_journalled(&mut volume, random);
+    volume
+}
+
+/// Cuts a call that goes through the journal in one of the groups that leave it open.
+pub fn cut_journalled(volume: &mut [u8], random: &mut Random) {
+    for _ in 0..20 {
+        let call = any_call(random, word(volume, 1), &map_of(volume));
+        let list = filled(volume, &call).unwrap_or_default();
+        if groups(&list).len() == 4 {
+            let group = random.between(1, 3) as usize;
+            let kept = random.number();
+            return cut(volume, &list, group, |index| kept >> (index % 64) & 1 == 1);
+        }
+    }
+}
+
+/// A volume with a few words or bits changed where a judge looks, or noise behind a good header.
+fn damaged(random: &mut Random) -> Vec<u8> {
+    if random.once_in(12) {
+        let [headed, likely] = headed_noise(random);
+        return if random.once_in(2) { headed } else { likely };
+    }
+    let mut volume = match random.once_in(4) {
+        true => left_open(random),
+        false => used(random),
+    };
+    let live = live_words(&volume);
+    for _ in 0..random.between(1, 2) {
+        match random.once_in(3) {
+            true => flip_live_bit(random, &mut volume, &live),
+            false => change_live_word(random, &mut volume, &live),
+        }
+    }
+    volume
+}
+
+/// Bytes whose length or words 0 to 2 are not a volume's.
+pub fn unheaded(random: &mut Random) -> Vec<u8> {
+    let mut volume = used(random);
+    match random.below(6) {
+        0 => volume.truncate(random.below(volume.len() as u64) as usize),
+        1 => volume.extend(vec![0; random.between(1, 600) as usize]),
+        2 => volume.truncate(512 * random.below(17) as usize),
+        _ => {
+            let index = random.below(3);
+            let value = match random.below(3) {
+                0 => word(&volume, index) + 1,
+                1 => word(&volume, index) - 1,
+                _ => any_number(random),
+            };
+            set_word(&mut volume, index, value);
+        }
+    }
+    volume
+}
+
+/// A volume with hardly a free page left.
+fn crowded(random: &mut Random) -> Vec<u8> {
+    let mut volume = used(random);
+    for _ in 0..40 {
+        let Ok(free @ 1..) = free_count(&volume) else {
+            break;
+        };
+        let files: Vec<u64> = map_of(&volume).files.into_keys().collect();
+        let call = match random.choose(&files) {
+            Some(&inode) => {
+                let pages = random.between(1, free.min(4));
+                let bytes = vec![5; 512 * pages as usize];
+                write(inode, 512 * random.below(60), &bytes)
+            }
+            None => create(b"a"),
+        };
+        let _ = run(&mut volume, &call);
+    }
+    volume
+}
+
+/// A volume with 224 names of one file, the least that takes them: they stand in 32 log pages. The
+/// names have one byte, so that two of them are quickly told apart.
+fn full_directory(random: &mut Random) -> Vec<u8> {
+    let mut volume = formatted(34 + random.below(2), 8);
+    let skipped = random.below(30) as usize;
+    let entries: Vec<[u64; 8]> = (1..=255)
+        .filter(|&byte| byte != b'/')
+        .skip(skipped)
+        .take(224)
+        .map(|byte| entry_add(1, &[byte]))
+        .collect();
+    let pages: Vec<u64> = (2..34).collect();
+    put_log(&mut volume, 0, &pages, &entries);
+    put_log(&mut volume, 1, &[], &[]);
+    volume
+}
