@@ -14,7 +14,7 @@ use Rattle.model.specs.Answer.{done, Checks, firstRefusal, mapAnswer}
 use Rattle.model.specs.Calls.{besides, lowestRun, runFrom, pagesFor, tailPages, stretchEntries, invalidInode, createAction, linkAction, unlinkAction, renameAction, writeAction, sizeAction, cleanAction, recoverAction, isFull, sameInode, noFile, writeAppend, sizeAppend, cutsPage, cleanEntries, Append, entriesOnly, dataPages, appended, oldPages, oldSlots, freshPages, freshLog, noRoom, lacksRoom, roomChecks, actionChecks, action, checks, pagesCovered}
 use Rattle.model.specs.Public.{isVolume, isAccepted, volumeChecks, needsClosed, callChecks, fills, callAnswer}
 use Rattle.model.specs.Claim.{mapIn}
-use Rattle.model.specs.Promises.{isServed, every, named, freePages, hasRun, hasSlots, hasSpace, cuts, pagesAnew, CallsServed}
+use Rattle.model.specs.Promises.{isServed, every, named, freePages, hasRun, hasSlots, hasSpace, copied, pagesAnew, CallsServed}
 use Rattle.model.proofs.Tests.{by-bool, by-eq, by-lt, ands, no, not-some, bit-le}
 use Rattle.model.proofs.Lists.{length-values, values-at, values-in, values-distinct, lowest-is, allBelow-at, all-has}
 use Rattle.model.proofs.Counting.{few-lacks, besides-count}
@@ -263,7 +263,7 @@ module _ (v : List ℕ) (a : isAccepted v ≡ true) (o : isOpen (word v) ≡ fal
 
     -- how many entries a new size appends
     size-entries : (k s : ℕ) → k < N → isValid u k ≡ true → (p : ℕ) → lowestRun f P (sizeAppend u P N k s .count) ≡ some p
-        → length (appended u P f (sizeAppend u P N k s)) ≡ 1 + bit (cuts v k s)
+        → length (appended u P f (sizeAppend u P N k s)) ≡ 1 + bit (copied v k s)
     unfolding sizeAppend bit
     size-entries k s l val p e =
         let x = sizeAppend u P N k s in
@@ -272,12 +272,12 @@ module _ (v : List ℕ) (a : isAccepted v ≡ true) (o : isOpen (word v) ≡ fal
         (λ t. let b : bit (cutsPage u P N k s) ≡ 0 = rw t in entries-alone x refl l val b ∙ omega arith)
 
     size-space : (k s : ℕ) → k < N → isValid u k ≡ true
-        → not (lacksRoom u P f (sizeAppend u P N k s ∷ [])) ≡ hasSpace v k (1 + bit (cuts v k s)) (bit (cuts v k s))
+        → not (lacksRoom u P f (sizeAppend u P N k s ∷ [])) ≡ hasSpace v k (1 + bit (copied v k s)) (bit (copied v k s))
     unfolding sizeAppend
     size-space k s l val =
         let x = sizeAppend u P N k s in
         let b = bit-le (cutsPage u P N k s) in
-        space-is x refl l val (1 + bit (cuts v k s)) (omega arith) (omega arith) (λ p e. size-entries k s l val p e)
+        space-is x refl l val (1 + bit (copied v k s)) (omega arith) (omega arith) (λ p e. size-entries k s l val p e)
 
     size-there : (k : ℕ) → isSome (mapOf u P N .files k) ≡ true → length (bytesIn (mapOf u P N) k) ≡ fileOf u P N k .size
     unfolding bytesIn mapOf
@@ -288,7 +288,7 @@ module _ (v : List ℕ) (a : isAccepted v ≡ true) (o : isOpen (word v) ≡ fal
 
     sets : (k s : ℕ) → isServed (callAnswer v list (setSize k s))
         ≡ every (isSome (mapIn v .files k) ∷ leb s fileBytes
-        ∷ (eqb s (length (bytesIn (mapIn v) k)) || hasSpace v k (1 + bit (cuts v k s)) (bit (cuts v k s))) ∷ [])
+        ∷ (eqb s (length (bytesIn (mapIn v) k)) || hasSpace v k (1 + bit (copied v k s)) (bit (copied v k s))) ∷ [])
     unfolding action actionChecks sizeAction roomChecks mapIn
     sets k s =
         front (setSize k s)

@@ -193,9 +193,9 @@ module _ (v : List ℕ) where
   abbrev pub hasSpace : ℕ → ℕ → ℕ → Bool
   hasSpace k n c = hasRun c && (hasSlots k n || ltb c freePages)
 
-  -- whether a new size cuts a page of file k, which then is copied
-  abbrev pub cuts : ℕ → ℕ → Bool
-  cuts k s = cutsPage (word v) (word v 0) (word v 1) k s
+  -- whether a page of file k is copied where its size becomes s
+  abbrev pub copied : ℕ → ℕ → Bool
+  copied k s = cutsPage (word v) (word v 0) (word v 1) k s
 
   -- the pages of inode k's log written anew
   abbrev pub pagesAnew : ℕ → ℕ
@@ -216,7 +216,7 @@ module _ (v : List ℕ) where
         ∷ (eqb (length bs) 0 || hasSpace k 1 (pagesCovered o (o + length bs))) ∷ [])
     pub sets : (k s : ℕ) → isServed (callAnswer v list (setSize k s))
         ≡ every (isSome (M .files k) ∷ leb s fileBytes
-        ∷ (eqb s (length (bytesIn M k)) || hasSpace k (1 + bit (cuts k s)) (bit (cuts k s))) ∷ [])
+        ∷ (eqb s (length (bytesIn M k)) || hasSpace k (1 + bit (copied k s)) (bit (copied k s))) ∷ [])
     pub cleans : (k : ℕ) → isServed (callAnswer v list (clean k))
         ≡ every ((eqb k root || isSome (M .files k)) ∷ (eqb (word v (tailWord k)) 0 || leb (pagesAnew k) freePages) ∷ [])
     pub recovers : isServed (callAnswer v list recover) ≡ true
