@@ -1,15 +1,17 @@
 -- For callers: what an append comes to is what a call's action comes to, where entries, data and words to commit are the call's.
-use Rattle.model.proofs.Prelude.{ℕ, _+_, _*_, _/_, _%_, _≤_, _<_, _≡_, refl, _∙_, ap, fun-ext, Bool, true, false, _&&_, not, List, [], _∷_, _++_, Option, none, some, arith, zero-add, eqb, length, drop, eq-eqb, ne-eqb, lt-ltb, le-ltb}
+use Rattle.model.proofs.Prelude.{ℕ, _+_, _*_, _/_, _%_, _≤_, _<_, _≡_, _∙_, ap, fun-ext, Bool, true, false, not, List, [], _∷_, _++_, Option, none, some, arith, zero-add, sub-zero, and-false, eqb, length, drop, eq-eqb, ne-eqb, lt-ltb, le-ltb}
 use Rattle.model.specs.Lists.{indexOf}
 use Rattle.model.specs.Words.{word}
 use Rattle.model.specs.Layout.{validWord, headWord, tailWord}
-use Rattle.model.specs.Accept.{free}
+use Rattle.model.specs.Accept.{isValid, free}
 use Rattle.model.specs.Stores.{Stores, oneWord, noWords, both, onlyIf}
 use Rattle.model.specs.Answer.{done}
 use Rattle.model.specs.Calls as calls
 use Rattle.model.specs.Calls.{Change, layPages, lowestRun, runFrom, entriesOnly, dataPages, appended, oldPages, oldSlots, freshPages, freshLog, noRoom, prepared, newTail, ownChanges, pagesLeft, lacksRoom, allPrepared, allChanges, roomChecks, actionChecks, actionGroups}
 use Rattle.model.proofs.Tests.{by-lt}
 use Rattle.model.proofs.Lists.{length-values}
+use Rattle.model.proofs.Frame.View.{root-valid}
+use Rattle.inodes.specs.Judged.{Closed}
 use Rattle.stores.specs.Emitted.{Emitted}
 use Rattle.stores.specs.Added.{element}
 use Rattle.stores.proofs.Emitting.{emitted-parts}
@@ -17,16 +19,42 @@ use Rattle.answer.specs.Comes.{Comes}
 use Rattle.answer.specs.declared.Answer.the-variants.{Number}
 use Rattle.entries.specs.Table.{entriesOf}
 use Rattle.append.specs.declared.Append.{Append}
-use Rattle.append.specs.Appended.{zeroed, alsoCommitted, asked, plain, outcome}
+use Rattle.append.specs.Appended.{zeroed, alsoCommitted, firstCount, asked, secondAsked, plain, actionOf, outcome, Ready}
+use Rattle.append.proofs.Volumes.{closed-fine}
+
+-- one log: it gets all entries
+pub one-log : (a : Append) (ws ds : List ℕ) → a .moved ≡ 0 → actionOf a ws ds ≡ plain (asked a ws ds ∷ []) (zeroed a) (alsoCommitted a)
+unfolding actionOf secondAsked
+one-log a ws ds e = rw (eq-eqb (a .moved) 0 e)
+
+pub all-first : (a : Append) (ws : List ℕ) → a .moved ≡ 0 → firstCount a ws ≡ length ws / 8
+unfolding firstCount
+all-first a ws e = rw (e, sub-zero)
+
+pub one-ready : (v b : List ℕ) (a : Append) (ws ds l : List ℕ) → Closed v b → a .second ≡ 0 → a .moved ≡ 0 → a .log < word v 1
+    → isValid (word v) (a .log) ≡ true → a .other < word v 1 → (a .anew ≡ false → 0 < length ws / 8 + length ds / 64) → length ws < 4294967296
+    → 64 * (length ds / 64) ≡ length ds → 18 * (length ws / 8 + 1) + 2 * length ds + 44 ≤ length l → Ready v b a ws ds l
+one-ready v b a ws ds l c es em h val o entry few whole room =
+    let n : 0 < word v 1 = omega arith in
+    record {
+      volume = c;
+      log = h;
+      valid = val;
+      second = omega arith;
+      second-valid = rw es (root-valid (word v) (word v 0) (word v 1) (closed-fine v b c) n);
+      other = o;
+      moved = omega arith;
+      some-entry = λ e. rw (all-first a ws em) (entry e);
+      few = few;
+      whole = whole;
+      room = room;
+    }
 
 -- entries and no data
-pub asked-only : (a : Append) (ws : List ℕ) → a .file ≡ 0 → a .size ≡ 0 → asked a ws [] ≡ entriesOnly (a .anew) (a .log) (entriesOf ws 0 (length ws / 8))
+pub asked-only : (a : Append) (ws : List ℕ) → a .moved ≡ 0 → a .file ≡ 0 → a .size ≡ 0
+    → asked a ws [] ≡ entriesOnly (a .anew) (a .log) (entriesOf ws 0 (length ws / 8))
 unfolding asked entriesOnly element
-asked-only a ws e f = rw (e, f)
-
-and-false : (a : Bool) → a && false ≡ false
-and-false true = refl
-and-false false = refl
+asked-only a ws m e f = rw (all-first a ws m, e, f)
 
 -- an inode that becomes valid, one that is let go, and none
 module _ (a : Append) where

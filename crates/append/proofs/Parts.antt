@@ -1,37 +1,47 @@
--- The parts of the first group beside log and data, and the words that commit it.
-use Rattle.model.proofs.Prelude.{ℕ, _+_, _*_, _<_, _≡_, sym, ap, _∙_, Bool, true, false, cond, _&&_, not, List, [], _∷_, arith, eqb, length, getD, take, eq-eqb, ne-eqb}
+-- The parts of the first group beside the first log, and the words that commit it.
+use Rattle.model.proofs.Prelude.{ℕ, zero, suc, _+_, _*_, _-_, _/_, _≤_, _<_, _≡_, refl, sym, ap, _∙_, Bool, true, false, cond, _&&_, not, List, [], _∷_, _++_, append-nil, arith, add-one, add-zero, zero-add, eqb, length, getD, take, length-append, length-take-le, take-append-seam, eq-eqb, ne-eqb}
 use Rattle.model.specs.Words.{Mem}
 use Rattle.model.specs.Layout.{validWord, headWord, tailWord}
-use Rattle.model.specs.Stores.{oneWord, run, onlyIf}
+use Rattle.model.specs.Stores.{oneWord, run}
+use Rattle.model.specs.Calls.{Change}
 use Rattle.model.proofs.Tests.{by-eq}
+use Rattle.layout.specs.declared.Sizes.{Sizes}
+use Rattle.stores.specs.Emitted.{Emitted}
 use Rattle.stores.specs.Added.{Added, element}
+use Rattle.stores.proofs.Emitting.{same-length, emitted-both, emitted-parts}
 use Rattle.stores.proofs.Groups.{added-both, added-if, added-not}
-use Rattle.commit.specs.Commit.{changesFrom}
+use Rattle.commit.specs.Commit.{changesFrom, changesOf}
+use Rattle.entries.specs.Table.{entriesOf}
+use Rattle.entries.proofs.Entries.{length-entries}
+use Rattle.laying.specs.declared.Laid.{Laid}
+use Rattle.laying.specs.Laying.{tailBehind, LogLaid}
 use Rattle.append.specs.declared.Append.{Append}
-use Rattle.append.specs.declared.Room.{Room}
-use Rattle.append.specs.Appended.{oldTail, zeroed, restOf, alsoCommitted, committing, Commits}
+use Rattle.append.specs.Appended.{oldTail, headOf, restOf, secondStores, SecondLaid, zeroed, pairsOf, alsoCommitted, committing}
 
 -- `old_tail`
-module _ (u : Mem) (a : Append) where
-  pub tail-anew : a .anew ≡ true → 0 ≡ oldTail u a
+module _ (u : Mem) (anew : Bool) (k : ℕ) where
+  pub tail-anew : anew ≡ true → 0 ≡ oldTail u anew k
   unfolding oldTail
-  tail-anew e = sym (ap (λ b. cond b 0 (u (tailWord (a .log)))) e)
+  tail-anew e = rw e
 
-  pub tail-old : (w x : ℕ) → a .anew ≡ false → w ≡ tailWord (a .log) → x ≡ u w → x ≡ oldTail u a
+  pub tail-old : (w x : ℕ) → anew ≡ false → w ≡ tailWord k → x ≡ u w → x ≡ oldTail u anew k
   unfolding oldTail
-  tail-old w x e f g = g ∙ ap u f ∙ sym (ap (λ b. cond b 0 (u (tailWord (a .log)))) e)
+  tail-old w x e f g = rw e (g ∙ ap u f)
 
 -- `put_head`
-module _ (l : List ℕ) (end t w x : ℕ) (anew : Bool) where
-  pub head-anew : anew ≡ true → Added l 0 end (onlyIf (not anew && eqb t 0) (oneWord w x)) end l
-  head-anew e = added-not l 0 end (not anew && eqb t 0) (oneWord w x) (rw e)
+module _ (l : List ℕ) (end k t x : ℕ) (anew : Bool) where
+  pub head-anew : anew ≡ true → Added l 0 end (headOf anew k t x) end l
+  unfolding headOf
+  head-anew e = added-not l 0 end (not anew && eqb t 0) (oneWord (headWord k) x) (rw e)
 
-  pub head-there : anew ≡ false → (t ≡ 0 → ⊥) → Added l 0 end (onlyIf (not anew && eqb t 0) (oneWord w x)) end l
-  head-there e h = added-not l 0 end (not anew && eqb t 0) (oneWord w x) (rw (e, ne-eqb t 0 h))
+  pub head-there : anew ≡ false → (t ≡ 0 → ⊥) → Added l 0 end (headOf anew k t x) end l
+  unfolding headOf
+  head-there e h = added-not l 0 end (not anew && eqb t 0) (oneWord (headWord k) x) (rw (e, ne-eqb t 0 h))
 
-  pub head-put : (i r : ℕ) (m : List ℕ) → anew ≡ false → t ≡ 0 → i ≡ w → Added l 0 end (oneWord i x) r m
-      → Added l 0 end (onlyIf (not anew && eqb t 0) (oneWord w x)) r m
-  head-put i r m e h j a = added-if l 0 end (not anew && eqb t 0) (oneWord w x) r m (rw (e, eq-eqb t 0 h)) (rw j at a)
+  pub head-put : (i r : ℕ) (m : List ℕ) → anew ≡ false → t ≡ 0 → i ≡ headWord k → Added l 0 end (oneWord i x) r m
+      → Added l 0 end (headOf anew k t x) r m
+  unfolding headOf
+  head-put i r m e h j a = added-if l 0 end (not anew && eqb t 0) (oneWord (headWord k) x) r m (rw (e, eq-eqb t 0 h)) (rw j at a)
 
 -- `put_new`
 module _ (l : List ℕ) (end : ℕ) (a : Append) where
@@ -50,81 +60,124 @@ module _ (l : List ℕ) (end : ℕ) (a : Append) where
       added-if l 0 end _ _ r o (rw (ne-eqb (a .other) 0 f, ne-eqb (a .valid) 0 g)) (added-both (rw h at x) (rw k at y))
 
 -- `put_rest`
-pub rest-put : (l m o q : List ℕ) (end e f r t w : ℕ) (a : Append) (k : Room) (ds : List ℕ)
-    → Added l 0 end (onlyIf (not (a .anew) && eqb t 0) (oneWord (headWord (a .log)) (k .first))) e m → w ≡ 64 * k .start
-    → Added m 0 e (run w (length ds) (element ds)) f o → Added o 0 f (zeroed a) r q → Added l 0 end (restOf a t k ds) r q
+pub rest-put : (l m o : List ℕ) (end e r t w h p : ℕ) (a : Append) (ds : List ℕ) → Added l 0 end (headOf (a .anew) (a .log) t h) e m → w ≡ 64 * p
+    → Added m 0 e (run w (length ds) (element ds)) r o → Added l 0 end (restOf a t h p ds) r o
 unfolding restOf
-rest-put l m o q end e f r t w a k ds x i y z = added-both x (added-both (rw i at y) z)
+rest-put l m o end e r t w h p a ds x i y = added-both x (rw i at y)
 
--- `also`
-pub also-none : (a : Append) → a .other ≡ 0 → 0 ≡ 2 * length (alsoCommitted a)
-unfolding alsoCommitted
-also-none a e = rw (eq-eqb (a .other) 0 e)
+-- `lay_second`
+module _ (b : List ℕ) (s : Sizes) (l : List ℕ) (g : Laid) (k : ℕ) (ws : List ℕ) where
+  abbrev es : List (List ℕ)
+  es = entriesOf ws 0 (length ws / 8)
 
-pub also-one : (a : Append) → (a .other ≡ 0 → ⊥) → 2 ≡ 2 * length (alsoCommitted a)
-unfolding alsoCommitted
-also-one a e = rw (ne-eqb (a .other) 0 e)
+  pub second-none : length ws / 8 ≡ 0 → SecondLaid b s l g k ws g l
+  unfolding secondStores tailBehind
+  second-none z =
+      record {
+        end = omega arith;
+        stores = added-not l 0 (g .end) (not (eqb (length es) 0)) _ (rw (length-entries, z));
+        tail = rw z;
+      }
 
--- `to_commit`: h, t and o are the words' indices, n is what `also` answers
-module _ (a : Append) (x y h t o n : ℕ) (eh : h ≡ headWord (a .log)) (et : t ≡ tailWord (a .log)) (eo : o ≡ validWord (a .other))
-    (en : n ≡ 2 * length (alsoCommitted a)) where
-  abbrev v : ℕ
-  v = a .valid
+  pub second-laid : (h : Laid) (e : ℕ) (m o : List ℕ) → (length ws / 8 ≡ 0 → ⊥) → LogLaid b s l g ws [] h m
+      → Added m 0 (h .end) (headOf false k (g .tail) (h .head)) e o → e ≤ h .end + 2
+      → SecondLaid b s l g k ws (record { end = e; head = h .head; tail = h .tail; from = h .from }) o
+  unfolding secondStores entriesOf
+  second-laid h e m o z x y w =
+      let n : length ws / 8 + length {A = ℕ} [] / 8 ≡ length ws / 8 = omega arith in
+      let c = length-entries ws 0 (length ws / 8) in
+      record {
+        end = omega (arith, x .end);
+        stores = added-if l 0 (g .end) (not (eqb (length es) 0)) _ e o (rw (c, ne-eqb (length ws / 8) 0 z))
+            (added-both (rw append-nil at (x .stores)) (rw (c, ← n, ← x .head) y));
+        tail = x .tail ∙ ap (tailBehind b s g) n;
+      }
 
-  -- the words of one change, of two and of three
-  module _ (M : ℕ) (j : ℕ) where
-    low-one : (p q : ℕ) → p < M → j < 1 → getD (p ∷ q ∷ []) (2 * j) 0 < M
-    low-one p q f g = let z : j ≡ 0 = omega arith in rw z f
+-- Words to commit, as pairs.
 
-    low-two : (p q r s : ℕ) → p < M → r < M → j < 2 → getD (p ∷ q ∷ r ∷ s ∷ []) (2 * j) 0 < M
-    low-two p q r s f g h = by-eq j 0 (λ z. rw z f) (λ z. let y : j ≡ 1 = omega arith in rw y g)
+pairs-append : (cs ds : List Change) → pairsOf (cs ++ ds) ≡ pairsOf cs ++ pairsOf ds
+unfolding pairsOf
+pairs-append [] ds = refl
+pairs-append (c ∷ cs) ds = rw (pairs-append cs ds)
 
-    low-three : (p q r s t u : ℕ) → p < M → r < M → t < M → j < 3 → getD (p ∷ q ∷ r ∷ s ∷ t ∷ u ∷ []) (2 * j) 0 < M
-    low-three p q r s t u f g h i =
-        by-eq j 0 (λ z. rw z f) (λ z. by-eq j 1 (λ y. rw y g) (λ y. let x : j ≡ 2 = omega arith in rw x h))
+-- `put_change`
+module _ (l : List ℕ) (at w x : ℕ) (changes : Bool) where
+  pub change-none : changes ≡ false → Emitted l at (pairsOf (cond changes ((w, x) ∷ []) [])) at l
+  unfolding pairsOf
+  change-none e = rw e (record { end = sym (add-zero at); list = refl })
 
-  pub commits-anew : a .anew ≡ true → Commits a x y (take (4 + n) (h ∷ x ∷ t ∷ y ∷ o ∷ v ∷ []))
-  unfolding committing alsoCommitted changesFrom
-  commits-anew e =
-      by-eq (a .other) 0
+  pub change-put : (r : ℕ) (m : List ℕ) → changes ≡ true → Emitted l at (w ∷ x ∷ []) r m → Emitted l at (pairsOf (cond changes ((w, x) ∷ []) [])) r m
+  unfolding pairsOf
+  change-put r m e p = rw e p
+
+-- `to_commit`: h, t, u and o are the words' indices
+pub four-put : (a : Append) (l l₁ l₂ l₃ l₄ : List ℕ) (x y z h t u o r₁ r₂ r₃ r : ℕ) (moves frees : Bool) → h ≡ headWord (a .log) → t ≡ tailWord (a .log)
+    → u ≡ tailWord (a .second) → o ≡ validWord (a .other) → moves ≡ not (eqb (a .moved) 0) → frees ≡ not (eqb (a .other) 0)
+    → Emitted l 0 (pairsOf (cond (a .anew) ((h, x) ∷ []) [])) r₁ l₁ → Emitted l₁ r₁ (pairsOf (cond true ((t, y) ∷ []) [])) r₂ l₂
+    → Emitted l₂ r₂ (pairsOf (cond moves ((u, z) ∷ []) [])) r₃ l₃ → Emitted l₃ r₃ (pairsOf (cond frees ((o, a .valid) ∷ []) [])) r l₄
+    → Emitted l 0 (pairsOf (committing a x y z)) r l₄
+unfolding committing alsoCommitted
+four-put a l l₁ l₂ l₃ l₄ x y z h t u o r₁ r₂ r₃ r moves frees eh et eu eo em ef p q v w =
+    let k = emitted-both (emitted-both (emitted-both p q) v) w in
+    rw (pairs-append, pairs-append, pairs-append, ← eh, ← et, ← eu, ← eo, ← em, ← ef) k
+
+-- the pairs are these changes
+pairs-from : (p q : ℕ) (l : List ℕ) (j n : ℕ) → changesFrom (p ∷ q ∷ l) (j + 1) n ≡ changesFrom l j n
+unfolding changesFrom
+pairs-from p q l j zero = refl
+pairs-from p q l j (suc n) =
+    let e : 2 * (j + 1) ≡ suc (suc (2 * j)) = omega arith in
+    let r = pairs-from p q l (j + 1) n in
+    rw (e, add-one (suc (suc (2 * j))), ← add-one (2 * j), r)
+
+pub pairs-long : (cs : List Change) → length (pairsOf cs) ≡ 2 * length cs
+unfolding pairsOf
+pairs-long [] = refl
+pairs-long (c ∷ cs) = omega (arith, pairs-long cs)
+
+pairs-changes : (cs : List Change) → changesFrom (pairsOf cs) 0 (length cs) ≡ cs
+unfolding pairsOf changesFrom
+pairs-changes [] = refl
+pairs-changes (c ∷ cs) = rw (pairs-from (c .0) (c .1) (pairsOf cs) 0 (length cs), pairs-changes cs)
+
+-- r of the words m were put
+module _ (l m : List ℕ) (r : ℕ) (cs : List Change) (e : Emitted l 0 (pairsOf cs) r m) (room : 8 ≤ length l) (few : r ≤ 8) where
+  pub put-words : take r m ≡ pairsOf cs
+  put-words = let n : r ≡ length (pairsOf cs) = e .end ∙ zero-add (length (pairsOf cs)) in rw (emitted-parts e (omega arith), n, take-append-seam)
+
+  pub put-long : r ≡ length (take r m)
+  put-long = sym (length-take-le r m (omega (arith, same-length e)))
+
+  pub put-changes : changesOf (take r m) ≡ cs
+  put-changes = let n : 2 * length cs / 2 ≡ length cs = omega arith in rw (put-words, pairs-long cs, n, pairs-changes cs)
+
+-- where all words of changes are below M, so are those of their pairs
+abbrev Below : ℕ → List Change → Type 0
+Below M cs = (j : ℕ) → j < length cs → getD (pairsOf cs) (2 * j) 0 < M
+
+module _ (M : ℕ) where
+  below-if : (b : Bool) (c : Change) → c .0 < M → Below M (cond b (c ∷ []) [])
+  unfolding pairsOf
+  below-if true c h j l = let z : j ≡ 0 = omega arith in rw z h
+  below-if false c h j l = absurd (omega arith)
+
+  below-both : (cs ds : List Change) → Below M cs → Below M ds → Below M (cs ++ ds)
+  unfolding pairsOf
+  below-both [] ds x y j l = y j l
+  below-both (c ∷ cs) ds x y j l =
+      by-eq j 0 (λ z. let h = x 0 (omega arith) in rw z h)
       (λ z.
-      let k : 4 + n ≡ 4 = omega (arith, also-none a z) in
-      let c = ap (λ b. cond b ((headWord (a .log), x) ∷ (tailWord (a .log), y) ∷ alsoCommitted a) ((tailWord (a .log), y) ∷ alsoCommitted a)) e in
-      rw k (record {
-        changes = sym (c ∙ rw (eq-eqb (a .other) 0 z, eh, et));
-        some = omega arith;
-        few = omega arith;
-        inside = λ M p q j i. low-two M j h x t y (omega arith) (omega arith) i;
-      }))
-      (λ z.
-      let k : 4 + n ≡ 6 = omega (arith, also-one a z) in
-      let c = ap (λ b. cond b ((headWord (a .log), x) ∷ (tailWord (a .log), y) ∷ alsoCommitted a) ((tailWord (a .log), y) ∷ alsoCommitted a)) e in
-      rw k (record {
-        changes = sym (c ∙ rw (ne-eqb (a .other) 0 z, eh, et, eo));
-        some = omega arith;
-        few = omega arith;
-        inside = λ M p q j i. low-three M j h x t y o v (omega arith) (omega arith) (omega arith) i;
-      }))
+      let e : 2 * j ≡ suc (suc (2 * (j - 1))) = omega arith in
+      rw e (below-both cs ds (λ i k. let f : 2 * (i + 1) ≡ suc (suc (2 * i)) = omega arith in rw f at (x (i + 1) (omega arith))) y (j - 1) (omega arith)))
 
-  pub commits-tail : a .anew ≡ false → Commits a x y (take (2 + n) (t ∷ y ∷ o ∷ v ∷ 0 ∷ 0 ∷ []))
-  unfolding committing alsoCommitted changesFrom
-  commits-tail e =
-      by-eq (a .other) 0
-      (λ z.
-      let k : 2 + n ≡ 2 = omega (arith, also-none a z) in
-      let c = ap (λ b. cond b ((headWord (a .log), x) ∷ (tailWord (a .log), y) ∷ alsoCommitted a) ((tailWord (a .log), y) ∷ alsoCommitted a)) e in
-      rw k (record {
-        changes = sym (c ∙ rw (eq-eqb (a .other) 0 z, et));
-        some = omega arith;
-        few = omega arith;
-        inside = λ M p q j i. low-one M j t y (omega arith) i;
-      }))
-      (λ z.
-      let k : 2 + n ≡ 4 = omega (arith, also-one a z) in
-      let c = ap (λ b. cond b ((headWord (a .log), x) ∷ (tailWord (a .log), y) ∷ alsoCommitted a) ((tailWord (a .log), y) ∷ alsoCommitted a)) e in
-      rw k (record {
-        changes = sym (c ∙ rw (ne-eqb (a .other) 0 z, et, eo));
-        some = omega arith;
-        few = omega arith;
-        inside = λ M p q j i. low-two M j t y o v (omega arith) (omega arith) i;
-      }))
+  pub committing-below : (a : Append) (x y z : ℕ) → tailWord (a .log) < M → tailWord (a .second) < M → tailWord (a .other) < M
+      → Below M (committing a x y z)
+  unfolding committing alsoCommitted
+  committing-below a x y z h i k =
+      below-both _ _
+      (below-both _ _ (below-both _ _ (below-if (a .anew) _ (omega arith)) (below-if true _ (omega arith))) (below-if (not (eqb (a .moved) 0)) _ (omega arith)))
+      (below-if (not (eqb (a .other) 0)) _ (omega arith))
+
+pub some-committed : (a : Append) (x y z : ℕ) → 1 ≤ length (committing a x y z)
+unfolding committing
+some-committed a x y z = rw (length-append, length-append, length-append) (omega arith)

@@ -18,8 +18,7 @@ use Rattle.model.proofs.Calls.Stored.{not-logged}
 use Rattle.layout.specs.declared.Sizes.{Sizes}
 use Rattle.inodes.specs.Judged.{Closed}
 use Rattle.space.proofs.Free.{unmarked-pages}
-use Rattle.append.specs.declared.Append.{Append}
-use Rattle.append.specs.Laying.{mayTake}
+use Rattle.laying.specs.Laying.{mayTake}
 use Rattle.append.specs.Appended.{oldTail}
 
 tail-multiple : (t : ℕ) → tailOk t ≡ true → (t % 512 ≤ 448) × (t % 64 ≡ 0)
@@ -78,22 +77,22 @@ module _ (v b : List ℕ) (c : Closed v b) where
         by-eq t 0 (λ z. let g = free-bounds u P N p f in absurd (omega arith))
         (λ z. not-logged u P N k l val p f (rw (← e) (tail-page u P N k good-log z)))
 
-  -- the tail that the log of an append goes on with
-  module _ (a : Append) (l : a .log < N) (val : isValid u (a .log) ≡ true) where
-    by-anew : (Q : ℕ → Type 0) → Q 0 → Q (u (tailWord (a .log))) → Q (oldTail u a)
+  -- the tail that the log of inode k goes on with
+  module _ (anew : Bool) (k : ℕ) (l : k < N) (val : isValid u k ≡ true) where
+    by-anew : (Q : ℕ → Type 0) → Q 0 → Q (u (tailWord k)) → Q (oldTail u anew k)
     unfolding oldTail
-    by-anew Q x y = go (a .anew)
+    by-anew Q x y = go anew
       where
-        go : (z : Bool) → Q (cond z 0 (u (tailWord (a .log))))
+        go : (z : Bool) → Q (cond z 0 (u (tailWord k)))
         go true = x
         go false = y
 
-    pub old-fine : (oldTail u a % 512 ≤ 448) × (oldTail u a % 64 ≡ 0) × (oldTail u a / 512 < P)
+    pub old-fine : (oldTail u anew k % 512 ≤ 448) × (oldTail u anew k % 64 ≡ 0) × (oldTail u anew k / 512 < P)
     old-fine =
         by-anew (λ x. (x % 512 ≤ 448) × (x % 64 ≡ 0) × (x / 512 < P))
-        (let s = closed-sizes .2 in (omega arith, omega arith, omega arith)) (tail-fine (a .log) l val)
+        (let s = closed-sizes .2 in (omega arith, omega arith, omega arith)) (tail-fine k l val)
 
-    pub old-apart : (p : ℕ) → free u P N p ≡ true → oldTail u a / 512 ≡ p → ⊥
+    pub old-apart : (p : ℕ) → free u P N p ≡ true → oldTail u anew k / 512 ≡ p → ⊥
     old-apart =
         by-anew (λ x. (p : ℕ) → free u P N p ≡ true → x / 512 ≡ p → ⊥)
-        (λ p f e. let g = free-bounds u P N p f in omega arith) (tail-apart (a .log) l val)
+        (λ p f e. let g = free-bounds u P N p f in omega arith) (tail-apart k l val)

@@ -1,39 +1,43 @@
 -- The whole append: where there are pages enough, the list is that of the definitions' action, and where not, the answer is 12.
-use Rattle.model.proofs.Prelude.{ℕ, zero, suc, _+_, _*_, _-_, _/_, _%_, _≤_, _<_, _≡_, refl, sym, ap, _∙_, fun-ext, Bool, true, false, cond, _&&_, not, List, [], _∷_, _++_, ⊎-elim, Option, none, some, arith, add-zero, sub-zero, ltb, eqb, length, getD, take, replicate, length-append, length-replicate, length-take-le, eq-eqb, ne-eqb, lt-ltb, ltb-false, not-false}
+use Rattle.model.proofs.Prelude.{ℕ, zero, suc, _+_, _*_, _-_, _/_, _%_, _≤_, _<_, _≡_, refl, sym, ap, _∙_, fun-ext, Bool, true, false, cond, not, _||_, List, [], _∷_, _++_, ⊎-elim, Option, none, some, arith, add-zero, sub-zero, ltb, eqb, length, getD, take, drop, replicate, length-append, length-replicate, length-take-le, length-drop, take-all, eq-eqb, ne-eqb, lt-ltb, le-ltb, ltb-false, not-false}
 use Rattle.model.specs.Lists.{valuesFrom, allBelow, lowestFew, indexOf, has}
 use Rattle.model.specs.Words.{Mem, word}
 use Rattle.model.specs.Layout.{headWord, tailWord}
 use Rattle.model.specs.Entry.{writeWords}
-use Rattle.model.specs.Log.{tailSlots}
 use Rattle.model.specs.Stretches.{stretches}
-use Rattle.model.specs.Accept.{free}
-use Rattle.model.specs.Stores.{run, both, storeList}
+use Rattle.model.specs.Accept.{isValid, free}
+use Rattle.inodes.specs.Judged.{Closed}
+use Rattle.model.specs.Stores.{Stores, run, both, onlyIf, storeList}
 use Rattle.model.specs.Calls as calls
-use Rattle.model.specs.Calls.{Change, layEntries, layPages, stretchEntries, tailAfter, tailPages, commit, besides, lowestRun, dataPages, appended, oldPages, oldSlots, freshPages, freshLog, noRoom, prepared, newTail, ownChanges, lacksRoom, allPrepared, allChanges, roomChecks, actionChecks, actionGroups}
-use Rattle.model.proofs.Tests.{by-eq, by-range, and-left, no as never, not-true-false, or-false}
+use Rattle.model.specs.Calls.{layPages, stretchEntries, commit, entriesOnly, besides, lowestRun, dataPages, appended, freshPages, freshLog, noRoom, prepared, pagesLeft, lacksRoom, allPrepared, allChanges, roomChecks, actionChecks, actionGroups}
+use Rattle.model.proofs.Tests.{by-bool, by-eq, by-range, and-left, no as never, not-true-false, or-false}
 use Rattle.model.proofs.Lists.{length-values, values-at, values-in, values-distinct, index-getD, lowest-is, allBelow-at, few-length, few-holds, has-append, has-cons}
 use Rattle.model.proofs.Log.Live.{lay-in}
 use Rattle.model.proofs.State.Stretches.{one-stretch}
 use Rattle.model.proofs.Crash.Stores.{Only, only-word, only-run, only-both, only-if}
 use Rattle.model.proofs.Calls.Room.{free-bounds, pages-off}
-use Rattle.model.proofs.Calls.Actions.{one-room, one-prepared, one-changes}
+use Rattle.model.proofs.Calls.Actions.{both-none, one-room, one-prepared, one-changes, no-data, only-entries}
 use Rattle.layout.specs.declared.Sizes.{Sizes}
+use Rattle.stores.specs.Emitted.{Emitted}
 use Rattle.stores.specs.Added.{Added, element}
-use Rattle.stores.proofs.Groups.{both-assoc, added-both, group-of}
+use Rattle.stores.proofs.Groups.{added-both, group-of}
 use Rattle.commit.specs.Commit.{changesOf, Pairs, Committed}
 use Rattle.entries.specs.Table.{entriesOf}
-use Rattle.entries.proofs.Entries.{length-entries, one-entry}
+use Rattle.entries.proofs.Entries.{length-entries, one-entry, entries-take, entries-drop}
 use Rattle.space.proofs.Taken.{length-marked}
 use Rattle.answer.specs.Comes.{Comes}
 use Rattle.answer.specs.declared.Answer.the-variants.{Number, NoSpace}
+use Rattle.laying.specs.declared.Laid.{Laid}
+use Rattle.laying.specs.Laying.{pageOf, slotsAt, neededAt, startAt, mayTake, freshFrom, pagesBehind, toLay, tailBehind, headBehind, Layable, LogLaid}
+use Rattle.laying.proofs.Steps.{no-need}
 use Rattle.append.specs.declared.Append.{Append}
-use Rattle.append.specs.declared.Laid.{Laid}
 use Rattle.append.specs.declared.Room.{Room}
-use Rattle.append.specs.Laying.{pageOf, slotsAt, neededAt, startAt, mayTake, pagesBehind, toLay, tailBehind, Layable, LogLaid}
-use Rattle.append.specs.Appended.{oldTail, writes, dataTaken, logTaken, Taken, zeroed, restOf, alsoCommitted, committing, Commits, asked, actionOf, outcome, Ready}
+use Rattle.append.specs.Appended.{oldTail, writes, dataTaken, logTaken, Taken, headOf, restOf, secondStores, SecondLaid, zeroed, pairsOf, alsoCommitted, committing, firstCount, asked, secondAsked, actionOf, outcome, Ready}
 use Rattle.append.proofs.Outcomes.{comes-words}
-use Rattle.append.proofs.Taking.{no-run}
+use Rattle.append.proofs.Taking.{no-run, besides-none, few-both}
+use Rattle.append.proofs.Parts.{pairs-long, put-words, put-changes, committing-below, some-committed}
 use Rattle.append.proofs.Volumes.{closed-bytes, closed-sizes, closed-enqueue, closed-free, old-fine, old-apart}
+use Rattle.append.proofs.Logs.{fresh-is, log-prepared, log-changes, log-left}
 
 -- Consecutive data pages are a run of words.
 lay-here : (p n : ℕ) (f : ℕ → ℕ) (w : ℕ) → 64 * p ≤ w → w < 64 * p + 64 * n → layPages (valuesFrom (λ i. i) p n) f w ≡ some (f (w - 64 * p))
@@ -66,38 +70,22 @@ write-entry file p (suc c) z h =
     (λ j l. let k : file + j - file ≡ j = omega arith in rw k (values-at (λ i. i) p (suc c) j l)) in
     rw (e, ne-eqb (suc c) 0 (omega arith)) (sym (one-entry (writeWords file p (suc c) z) refl))
 
--- The log's page and slots, whether it goes on or is written anew.
-module _ (u : Mem) (P : ℕ) (f : ℕ → Bool) (a : Append) (ws ds : List ℕ) where
-  abbrev A : calls.Append
-  A = asked a ws ds
+-- The entries of the first log, and those of the second as the code takes them from the table.
 
-  abbrev t : ℕ
-  t = oldTail u a
+first-entries : (ws : List ℕ) (n : ℕ) → 8 * n ≤ length ws → (length (take (8 * n) ws) / 8 ≡ n) × (entriesOf (take (8 * n) ws) 0 n ≡ entriesOf ws 0 n)
+first-entries ws n h = let e = length-take-le (8 * n) ws h in (omega arith, entries-take ws (8 * n) 0 n (omega arith))
 
-  pages-by : (x : Bool) (k : ℕ) → cond x [] (tailPages u k) ≡ pageOf (cond x 0 (u (tailWord k)))
-  unfolding pageOf tailPages
-  pages-by true k = refl
-  pages-by false k = refl
+abbrev lastOf : List ℕ → ℕ → List ℕ
+lastOf ws k = take (length ws - k) (drop k ws)
 
-  slots-by : (x : Bool) (k : ℕ) → cond x 0 (tailSlots u k) ≡ slotsAt (cond x 0 (u (tailWord k)))
-  slots-by true k = refl
-  slots-by false k = refl
-
-  head-by : (x : Bool) (k : ℕ) → not x && eqb (u (tailWord k)) 0 ≡ not x && eqb (cond x 0 (u (tailWord k))) 0
-  head-by true k = refl
-  head-by false k = refl
-
-  old-pages : oldPages u P f A ≡ pageOf t
-  unfolding oldPages oldTail asked
-  old-pages = pages-by (a .anew) (a .log)
-
-  old-slots : oldSlots u P f A ≡ slotsAt t
-  unfolding oldSlots oldTail asked
-  old-slots = slots-by (a .anew) (a .log)
-
-  fresh-is : freshPages u P f A ≡ neededAt t (length (appended u P f A))
-  unfolding freshPages neededAt
-  fresh-is = rw (old-pages, old-slots)
+last-entries : (ws : List ℕ) (n : ℕ) → n ≤ length ws / 8
+    → (length (lastOf ws (8 * (length ws / 8 - n))) / 8 ≡ n)
+    × (entriesOf (lastOf ws (8 * (length ws / 8 - n))) 0 n ≡ entriesOf ws (8 * (length ws / 8 - n)) n)
+last-entries ws n h =
+    let k = 8 * (length ws / 8 - n) in
+    let e = length-drop k ws in
+    let a : lastOf ws k ≡ drop k ws = take-all (length ws - k) (drop k ws) (omega arith) in
+    rw a (omega arith, entries-drop ws k 0 n ∙ ap (λ j. entriesOf ws j n) (add-zero k))
 
 writes-long : (file p c z : ℕ) → length (take (8 * writes c) (writeWords file p c z)) / 8 ≡ writes c
 unfolding writes writeWords
@@ -108,8 +96,8 @@ pub slice-long : (more file p c z : ℕ) (e : List ℕ) → e ≡ writeWords fil
 unfolding writeWords
 slice-long more file p c z e q h = sym (length-take-le (8 * more) e (rw q (omega arith)))
 
-pub take-long : (n : ℕ) (l : List ℕ) → n ≤ length l → n ≡ length (take n l)
-take-long n l h = sym (length-take-le n l h)
+pub first-long : (ws : List ℕ) (n : ℕ) → 8 * (length ws / 8 - n) ≡ length (take (8 * (length ws / 8 - n)) ws)
+first-long ws n = sym (length-take-le (8 * (length ws / 8 - n)) ws (omega arith))
 
 -- What the code asks of the volume, the sizes and the inodes.
 module _ (v b : List ℕ) (a : Append) (ws ds l : List ℕ) (y : Ready v b a ws ds l) where
@@ -125,11 +113,11 @@ module _ (v b : List ℕ) (a : Append) (ws ds l : List ℕ) (y : Ready v b a ws 
   pub ready-tail : 8 * tailWord (a .log) + 8 ≤ length v
   ready-tail = omega (arith, closed-bytes v b (y .volume), sizes .2, y .log)
 
-  pub ready-log : a .log < 4294967296
-  ready-log = omega (arith, sizes .1, y .log)
+  pub ready-second : 8 * tailWord (a .second) + 8 ≤ length v
+  ready-second = omega (arith, closed-bytes v b (y .volume), sizes .2, y .second)
 
-  pub ready-other : a .other < 4294967296
-  ready-other = omega (arith, sizes .1, y .other)
+  pub ready-inodes : (a .log < 4294967296) × (a .second < 4294967296) × (a .other < 4294967296)
+  ready-inodes = (omega (arith, sizes .1, y .log), omega (arith, sizes .1, y .second), omega (arith, sizes .1, y .other))
 
   pub ready-pages : (P : ℕ) → P ≡ word v 0 → P ≤ 4096
   ready-pages P e = omega (arith, sizes .0)
@@ -137,28 +125,66 @@ module _ (v b : List ℕ) (a : Append) (ws ds l : List ℕ) (y : Ready v b a ws 
   pub ready-some : (P : ℕ) → P ≡ word v 0 → 0 < P
   ready-some P e = omega (arith, sizes .2)
 
-  pub ready-few : (n : ℕ) → n ≤ 1 → length ws / 8 + n < 4611686018427387904
+  pub ready-few : (n : ℕ) → n ≤ 1 → length ws / 8 - a .moved + n < 4611686018427387904
   ready-few n h = omega (arith, y .few)
+
+  pub ready-sum : (n q₁ q₂ : ℕ) → n ≤ 1 → q₁ ≤ length ws / 8 - a .moved + n → q₂ ≤ a .moved → q₁ + q₂ < 18446744073709551616
+  ready-sum n q₁ q₂ h i j = omega (arith, y .few, y .moved)
+
+  pub ready-bytes : 8 * (length ws / 8 - a .moved) * 8 < 18446744073709551616
+  ready-bytes = omega (arith, y .few)
+
+  pub ready-moved : a .moved < 4611686018427387904
+  ready-moved = omega (arith, y .few, y .moved)
 
   pub ready-marks : length b ≡ 4096
   ready-marks = rw (y .volume .served .list refl) (length-marked _ (replicate 4096 0) ∙ length-replicate {A = ℕ} 4096 0)
 
-  pub ready-pairs : (h t : ℕ) (cs : List ℕ) → Commits a h t cs → Pairs v cs
-  ready-pairs h t cs x =
-      let n = closed-bytes v b (y .volume) in
+-- A log that is laid from g on: it can be laid, and its stores lie in the volume.
+module _ (v b k : List ℕ) (s : Sizes) (c : Closed v b) (ep : s .pages ≡ word v 0) (may-free : (p : ℕ) → mayTake k s p ≡ true → free (word v) (word v 0) (word v 1) p ≡ true)
+    (anew : Bool) (i : ℕ) (h : i < word v 1) (val : isValid (word v) i ≡ true) (g : Laid) (et : g .tail ≡ oldTail (word v) anew i) where
+  at-layable : (n : ℕ) → length (freshFrom k s g (neededAt (g .tail) n)) ≡ neededAt (g .tail) n → Layable k s g n
+  at-layable n e =
+      let o = old-fine v b c anew i h val in
+      let o₂ = o .2 in
+      let z = closed-sizes v b c .0 in
       record {
-        page = omega (arith, sizes .2);
-        enqueue = closed-enqueue v b (y .volume);
-        inside = λ j g. let i = x .inside (64 * word v 0) (omega (arith, sizes .2, y .log)) (omega (arith, sizes .2, y .other)) j g in omega arith;
+        slot = rw et (o .0);
+        whole = rw et (o .1);
+        low = rw et (omega arith);
+        enough = e;
+        apart = λ p q m j. old-apart v b c anew i h val p (may-free p m) (rw et at j);
       }
 
--- The append of a, ws and ds to the volume v, with the pages that were taken: r and the marks k are what `take_pages` answered and left.
+  page-low : (q : ℕ) → has q (pageOf (g .tail)) ≡ true → q < word v 0
+  unfolding pageOf has
+  page-low q m =
+      let o = old-fine v b c anew i h val .2 in
+      by-eq (g .tail) 0 (λ z. never (rw z at m))
+      (λ z. ⊎-elim (λ e. omega (arith, rw (← et) at o)) (λ e. never e) (has-cons q (g .tail / 512) [] (rw (ne-eqb (g .tail) 0 z) at m)))
+
+  at-low : (es : List (List ℕ)) → Only (λ w. w < 64 * word v 0) (toLay k s g es)
+  unfolding toLay pagesBehind
+  at-low es w z e =
+      let d = neededAt (g .tail) (length es) in
+      ⊎-elim (λ m. let q = page-low (w / 64) m in omega arith)
+      (λ m.
+      let q = free-bounds (word v) (word v 0) (word v 1) (w / 64) (may-free (w / 64) (few-holds (mayTake k s) (s .pages - g .from) (g .from) d (w / 64) m .0)) in
+      omega arith)
+      (has-append (w / 64) (pageOf (g .tail)) (freshFrom k s g d) (lay-in _ (slotsAt (g .tail)) es w z e))
+
+-- The append of a, ws and ds to the volume v: t and t₂ are the tails of its logs, q₁ and q₂ the pages that they need. r and the marks k are what
+-- `take_pages` answered and left.
 module _ (v b : List ℕ) (a : Append) (ws ds l : List ℕ) (y : Ready v b a ws ds l) (s : Sizes) (ep : s .pages ≡ word v 0) (ei : s .inodes ≡ word v 1)
-    (t more : ℕ) (et : t ≡ oldTail (word v) a) (em : more ≡ writes (length ds / 64)) (r : Room) (k : List ℕ)
-    (x : Taken b s t (length ws / 8 + more) (length ds / 64) r k) where
-  -- how many entries there are
+    (t t₂ more q₁ q₂ : ℕ) (et : t ≡ oldTail (word v) (a .anew) (a .log)) (et₂ : t₂ ≡ oldTail (word v) false (a .second))
+    (em : more ≡ writes (length ds / 64)) (e₁ : q₁ ≡ neededAt t (length ws / 8 - a .moved + more)) (e₂ : q₂ ≡ neededAt t₂ (a .moved)) (r : Room)
+    (k : List ℕ) (x : Taken b s (q₁ + q₂) (length ds / 64) r k) where
+  -- how many entries the first log gets of the table, and how many in all
+  abbrev n : ℕ
+  n = length ws / 8 - a .moved
+
   abbrev m : ℕ
-  m = length ws / 8 + more
+  m = n + more
 
   abbrev u : Mem
   u = word v
@@ -175,8 +201,24 @@ module _ (v b : List ℕ) (a : Append) (ws ds l : List ℕ) (y : Ready v b a ws 
   abbrev c : ℕ
   c = length ds / 64
 
+  -- the appends
+  abbrev A : calls.Append
+  A = asked a ws ds
+
+  abbrev es₂ : List (List ℕ)
+  es₂ = entriesOf ws (8 * firstCount a ws) (a .moved)
+
   abbrev B : calls.Append
-  B = asked a ws ds
+  B = entriesOnly false (a .second) es₂
+
+  abbrev S : List calls.Append
+  S = secondAsked a ws
+
+  abbrev may : ℕ → Bool
+  may = besides f (dataPages u P f A)
+
+  abbrev f₂ : ℕ → Bool
+  f₂ = pagesLeft u P f A
 
   few : (P ≤ 4096) × (N ≤ 256) × (64 + 8 * N ≤ 64 * P) × (8 ≤ N)
   few = closed-sizes v b (y .volume)
@@ -187,9 +229,13 @@ module _ (v b : List ℕ) (a : Append) (ws ds l : List ℕ) (y : Ready v b a ws 
   run-is : lowestRun (mayTake b s) (s .pages) c ≡ lowestRun f P c
   run-is = rw (free-is, ep)
 
-  data-is : dataTaken b s t m c ≡ dataPages u P f B
+  data-is : dataTaken b s (q₁ + q₂) c ≡ dataPages u P f A
   unfolding dataTaken dataPages asked
   data-is = rw run-is
+
+  log-is : logTaken b s (q₁ + q₂) c ≡ lowestFew may P 0 (q₁ + q₂)
+  unfolding logTaken
+  log-is = rw (data-is, free-is, ep)
 
   -- there is a run for the data, from page p on
   module _ (p : ℕ) (e : lowestRun f P c ≡ some p) where
@@ -203,42 +249,69 @@ module _ (v b : List ℕ) (a : Append) (ws ds l : List ℕ) (y : Ready v b a ws 
     abbrev w₂ : List ℕ
     w₂ = take (8 * writes c) (writeWords (a .file) p c (a .size))
 
-    data-run : dataPages u P f B ≡ valuesFrom (λ i. i) p c
+    data-run : dataPages u P f A ≡ valuesFrom (λ i. i) p c
     unfolding dataPages asked
     data-run = rw e
 
-    pub all-entries : appended u P f B ≡ entriesOf ws 0 (length ws / 8) ++ entriesOf w₂ 0 (length w₂ / 8)
-    unfolding appended asked
-    all-entries = rw data-run (ap (λ es. entriesOf ws 0 (length ws / 8) ++ es) (write-entry (a .file) p c (a .size) low))
+    all-entries : appended u P f A ≡ entriesOf ws 0 n ++ entriesOf w₂ 0 (length w₂ / 8)
+    unfolding appended asked firstCount
+    all-entries = rw data-run (ap (λ es. entriesOf ws 0 n ++ es) (write-entry (a .file) p c (a .size) low))
 
-    pub all-long : length (appended u P f B) ≡ m
+    all-long : length (appended u P f A) ≡ m
     all-long = rw (all-entries, length-append, length-entries, length-entries, writes-long (a .file) p c (a .size), em)
 
-    fresh-need : freshPages u P f B ≡ neededAt t m
-    fresh-need = fresh-is u P f a ws ds ∙ (rw (all-long, et))
+    fresh-need : freshPages u P f A ≡ q₁
+    unfolding asked
+    fresh-need = fresh-is u P f A ∙ rw (all-long, e₁, et)
 
-    log-is : logTaken b s t m c ≡ freshLog u P f B
-    unfolding logTaken freshLog
-    log-is = rw (data-is, free-is, ep, fresh-need)
+    fresh-log : freshLog u P f A ≡ lowestFew may P 0 q₁
+    unfolding freshLog
+    fresh-log = rw fresh-need
 
-  data-none : lowestRun f P c ≡ none → dataPages u P f B ≡ []
+  data-none : lowestRun f P c ≡ none → dataPages u P f A ≡ []
   unfolding dataPages asked
   data-none e = rw e
 
-  no-room : (o : Option ℕ) → lowestRun f P c ≡ o → noRoom u P f B ≡ not (r .enough)
-  unfolding noRoom asked
+  -- the second log
+  second-long : (g : ℕ → Bool) → length (appended u P g B) ≡ a .moved
+  second-long g = rw (only-entries u P g false (a .second) es₂) (length-entries ws (8 * firstCount a ws) (a .moved))
+
+  second-may : (g : ℕ → Bool) → besides g (dataPages u P g B) ≡ g
+  second-may g = rw (no-data u P g false (a .second) es₂) (besides-none g)
+
+  second-lacks : (g : ℕ → Bool) → lacksRoom u P g S ≡ ltb (length (lowestFew g P 0 q₂)) q₂
+  unfolding secondAsked lacksRoom noRoom freshLog entriesOnly
+  second-lacks g =
+      by-eq (a .moved) 0
+      (λ z.
+      let o : q₂ ≡ 0 = e₂ ∙ rw z (no-need t₂ (rw et₂ (old-fine v b (y .volume) false (a .second) (y .second) (y .second-valid) .0))) in
+      rw (eq-eqb (a .moved) 0 z, o, le-ltb (length (lowestFew g P 0 0)) 0 (omega arith)))
+      (λ z.
+      let i : freshPages u P g B ≡ q₂ = fresh-is u P g B ∙ rw (second-long g, e₂, et₂) in
+      let d = no-data u P g false (a .second) es₂ in
+      rw (ne-eqb (a .moved) 0 z) (one-room u P g B ∙ rw (i, d, besides-none g)))
+
+  or-both : (p q o : Bool) → ((p || q) || o) ≡ (p || (q || o))
+  or-both true q o = refl
+  or-both false q o = refl
+
+  no-room : (o : Option ℕ) → lowestRun f P c ≡ o → (noRoom u P f A || lacksRoom u P f₂ S) ≡ not (r .enough)
+  unfolding noRoom pagesLeft asked
   no-room none e =
       let z = lt-ltb 0 c (no-run f P c (omega (arith, few .2)) e) in
       let d = data-none e in
-      rw (d, z) (sym (x .answer ∙ (rw (data-is, d, z))))
-  no-room (some p) e = sym (x .answer ∙ (rw (data-is, log-is p e, fresh-need p e)))
+      rw (d, z) (sym (x .answer ∙ rw (data-is, d, z)))
+  no-room (some p) e =
+      rw (second-lacks f₂, fresh-need p e, fresh-log p e)
+      (or-both (ltb (length (dataPages u P f A)) c) _ _ ∙ sym (x .answer ∙ rw (data-is, log-is, few-both may P q₁ q₂)))
 
-  pub lacks : lacksRoom u P f (B ∷ []) ≡ not (r .enough)
-  lacks = one-room u P f B ∙ no-room (lowestRun f P c) refl
+  pub lacks : lacksRoom u P f (A ∷ S) ≡ not (r .enough)
+  unfolding lacksRoom
+  lacks = no-room (lowestRun f P c) refl
 
   pub refuses : not (r .enough) ≡ true → Comes (outcome v (actionOf a ws ds)) l NoSpace l
   unfolding outcome actionOf actionChecks roomChecks
-  refuses e = let z : lacksRoom u P f (B ∷ []) ≡ true = lacks ∙ e in rw z (record { answer = refl; list = refl })
+  refuses e = let z : lacksRoom u P f (A ∷ S) ≡ true = lacks ∙ e in rw z (record { answer = refl; list = refl })
 
   module _ (no : not (r .enough) ≡ false) where
     h : r .enough ≡ true
@@ -247,37 +320,40 @@ module _ (v b : List ℕ) (a : Append) (ws ds l : List ℕ) (y : Ready v b a ws 
     run-some : lowestRun f P c ≡ some (r .start)
     run-some = sym run-is ∙ x .start h
 
-    enough-log : length (logTaken b s t m c) ≡ neededAt t m
-    unfolding logTaken
-    enough-log =
-        let ls = lowestFew (besides (mayTake b s) (dataTaken b s t m c)) (s .pages) 0 (neededAt t m) in
-        let e = or-false (ltb (length (dataTaken b s t m c)) c) (ltb (length ls) (neededAt t m)) (sym (x .answer) ∙ no) .1 in
-        let i = few-length (besides (mayTake b s) (dataTaken b s t m c)) (s .pages) 0 (neededAt t m) in
-        omega (arith, ltb-false (length ls) (neededAt t m) e)
+    -- both logs have their pages
+    none-lack : (ltb (length (lowestFew may P 0 q₁)) q₁ ≡ false) × (ltb (length (lowestFew (besides may (lowestFew may P 0 q₁)) P 0 q₂)) q₂ ≡ false)
+    none-lack =
+        let e = or-false (ltb (length (dataTaken b s (q₁ + q₂) c)) c) (ltb (length (logTaken b s (q₁ + q₂) c)) (q₁ + q₂)) (sym (x .answer) ∙ no) .1 in
+        or-false _ _ (sym (few-both may P q₁ q₂) ∙ (rw log-is at e))
 
-    -- the pages behind the tail
-    left-log : lowestFew (mayTake k s) (s .pages - 0) 0 (neededAt t m) ≡ logTaken b s t m c
-    unfolding logTaken
-    left-log = rw (x .left, sub-zero (s .pages))
+    enough-first : length (lowestFew may P 0 q₁) ≡ q₁
+    enough-first = let i = few-length may P 0 q₁ in omega (arith, ltb-false (length (lowestFew may P 0 q₁)) q₁ (none-lack .0))
 
-    taken-free : (p : ℕ) → mayTake k s p ≡ true → f p ≡ true
+    enough-second : length (lowestFew f₂ P 0 q₂) ≡ q₂
+    unfolding pagesLeft
+    enough-second =
+        let ls = lowestFew (besides may (lowestFew may P 0 q₁)) P 0 q₂ in
+        let i = few-length (besides may (lowestFew may P 0 q₁)) P 0 q₂ in
+        rw (fresh-log (r .start) run-some) (omega (arith, ltb-false (length ls) q₂ (none-lack .1)))
+
+    may-is : mayTake k s ≡ may
+    may-is = rw (x .left, data-is, free-is)
+
+    may-free : (p : ℕ) → mayTake k s p ≡ true → f p ≡ true
     unfolding besides
-    taken-free p e =
-        let z : besides (mayTake b s) (dataTaken b s t m c) p ≡ true = rw (x .left) at e in
-        rw free-is at (and-left (mayTake b s p) (not (has p (dataTaken b s t m c))) z)
+    may-free p e = let z : may p ≡ true = rw may-is at e in and-left (f p) (not (has p (dataPages u P f A))) z
 
-    pub log-layable : Layable k s (startAt t) m
-    log-layable =
-        let o = old-fine v b (y .volume) a (y .log) (y .valid) in
-        let o₂ = o .2 in
-        let n = few .0 in
-        record {
-          slot = rw et (o .0);
-          whole = rw et (o .1);
-          low = rw et (omega arith);
-          enough = rw left-log enough-log;
-          apart = λ p g e i. old-apart v b (y .volume) a (y .log) (y .valid) p (taken-free p e) (rw et at i);
-        }
+    -- the first log is laid from g₀ on
+    abbrev g₀ : Laid
+    g₀ = startAt 0 t 0
+
+    seeks : (j : ℕ) → freshFrom k s g₀ j ≡ lowestFew may P 0 j
+    seeks j = rw (may-is, sub-zero (s .pages), ep)
+
+    first-layable : Layable k s g₀ m
+    first-layable =
+        at-layable v b k s (y .volume) ep may-free (a .anew) (a .log) (y .log) (y .valid) g₀ et m
+        (rw (seeks (neededAt t m), ← e₁) enough-first)
 
     pub start-inside : 64 * r .start + length ds ≤ 64 * P
     unfolding lowestRun
@@ -289,131 +365,205 @@ module _ (v b : List ℕ) (a : Append) (ws ds l : List ℕ) (y : Ready v b a ws 
         let g = allBelow-at c (c - 1) (λ i. f (r .start + i)) i (omega arith) in
         omega (arith, free-bounds u P N (r .start + (c - 1)) g .1))
 
-    abbrev es : List (List ℕ)
-    es = entriesOf ws 0 (length ws / 8) ++ entriesOf (w₂ (r .start) run-some) 0 (length (w₂ (r .start) run-some) / 8)
-
-    -- the first group is that of the definitions
-    log-group : layEntries (oldPages u P f B ++ freshLog u P f B) (oldSlots u P f B) (appended u P f B) ≡ toLay k s (startAt t) es
-    unfolding toLay pagesBehind
-    log-group =
-        let e : length es ≡ m = rw (← all-entries (r .start) run-some) (all-long (r .start) run-some) in
-        rw (old-pages u P f a ws ds, old-slots u P f a ws ds, ← et, all-entries (r .start) run-some, e, left-log, log-is (r .start) run-some)
-
-    head-first : getD (freshLog u P f B) 0 0 ≡ r .first
-    head-first = sym (x .first h ∙ ap (λ ls. getD ls 0 0) (log-is (r .start) run-some))
-
-    group-is : both (allPrepared u P f (B ∷ [])) (zeroed a) ≡ both (toLay k s (startAt t) es) (restOf a t r ds)
-    unfolding prepared restOf asked oldTail
-    group-is =
-        let d = log-group in
-        let g : layPages (dataPages u P f B) (element ds) ≡ run (64 * r .start) (length ds) (element ds)
-        = (rw (data-run (r .start) run-some) (lay-run (r .start) c (element ds))) ∙ ap (λ n. run (64 * r .start) n (element ds)) (y .whole) in
-        let i : not (a .anew) && eqb (u (tailWord (a .log))) 0 ≡ not (a .anew) && eqb t 0 = rw et (head-by u P f a ws ds (a .anew) (a .log)) in
-        rw (one-prepared u P f B, d, head-first, i, g, both-assoc, both-assoc)
-
-    -- z is the tail behind the log
-    module _ (z : ℕ) (ez : z ≡ tailBehind k s (startAt t) m) where
-      anew-or-more : (o : Bool) → a .anew ≡ o → m ≡ 0 → t ≡ 0
-      unfolding oldTail writes
-      anew-or-more true e q = et ∙ ap (λ b. cond b 0 (u (tailWord (a .log)))) e
-      anew-or-more false e q =
-          let i = y .some-entry e in
-          by-eq c 0 (λ j. absurd (omega arith)) (λ j. absurd (let w : writes c ≡ 1 = rw (ne-eqb c 0 j) in omega arith))
-
-      new-tail : newTail u P f B ≡ (tailWord (a .log), z)
-      unfolding newTail tailBehind pagesBehind tailAfter asked
-      new-tail =
-          rw (old-pages u P f a ws ds, old-slots u P f a ws ds, ← et, ← log-is (r .start) run-some, all-long (r .start) run-some, ez, left-log)
-          (by-eq m 0 (λ i. rw (i, anew-or-more (a .anew) refl i)) (λ i. rw (ne-eqb m 0 i)))
-
-      commit-by : (o : Bool) (p q : Change) (cs : List Change) → cond o (p ∷ q ∷ []) (q ∷ []) ++ cs ≡ cond o (p ∷ q ∷ cs) (q ∷ cs)
-      commit-by true p q cs = refl
-      commit-by false p q cs = refl
-
-      changes-are : allChanges u P f (B ∷ []) ++ alsoCommitted a ≡ committing a (r .first) z
-      unfolding ownChanges committing asked
-      changes-are =
-          rw (one-changes u P f B, new-tail, head-first)
-          (commit-by (a .anew) (headWord (a .log), r .first) (tailWord (a .log), z) (alsoCommitted a))
-
-    -- all stores lie in the volume
-    page-low : (q : ℕ) → has q (pageOf t) ≡ true → q < P
-    unfolding pageOf has
-    page-low q g =
-        let o = old-fine v b (y .volume) a (y .log) (y .valid) .2 in
-        by-eq t 0 (λ z. never (rw z at g))
-        (λ z. ⊎-elim (λ e. omega (arith, rw (← et) at o)) (λ e. never e) (has-cons q (t / 512) [] (rw (ne-eqb t 0 z) at g)))
-
-    log-low : Only (λ w. w < 64 * P) (toLay k s (startAt t) es)
-    unfolding toLay pagesBehind
-    log-low w z e =
-        let g = lay-in _ (slotsAt t) es w z e in
-        ⊎-elim (λ i. let q = page-low (w / 64) i in omega arith)
-        (λ i.
-        let q = free-bounds u P N (w / 64) (taken-free (w / 64) (few-holds (mayTake k s) (s .pages - 0) 0 (neededAt t (length es)) (w / 64) i .0)) in
-        omega arith)
-        (has-append (w / 64) (pageOf t) (lowestFew (mayTake k s) (s .pages - 0) 0 (neededAt t (length es))) g)
-
-    rest-low : Only (λ w. w < 64 * P) (restOf a t r ds)
-    unfolding restOf zeroed
-    rest-low =
-        let M : ℕ → ℕ → Type 0 = λ w x. w < 64 * P in
-        let n = few .2 in
-        let i = y .log in
-        let j = y .other in
-        let g = start-inside in
-        only-both (only-if _ (λ e. only-word M (headWord (a .log)) (r .first) (omega arith)))
-        (only-both (only-run M (64 * r .start) (length ds) (element ds) (λ q h. omega arith))
-        (only-if _ (λ e. only-both (only-word M (headWord (a .other)) 0 (omega arith)) (only-word M (tailWord (a .other)) 0 (omega arith)))))
-
-    -- What the parts of `make` ask. xs₀ are the words of the data's entry, and xs those of them that are laid.
-
     few-more : more ≤ 1
     unfolding writes
     few-more = rw em (by-eq c 0 (λ z. rw (eq-eqb c 0 z) (omega arith)) (λ z. rw (ne-eqb c 0 z) (omega arith)))
+
+    abbrev es₁ : List (List ℕ)
+    es₁ = entriesOf ws 0 n ++ entriesOf (w₂ (r .start) run-some) 0 (length (w₂ (r .start) run-some) / 8)
+
+    all₁ : appended u P f A ≡ es₁
+    all₁ = all-entries (r .start) run-some
+
+    long₁ : length (appended u P f A) ≡ m
+    long₁ = all-long (r .start) run-some
+
+    -- What it stores is that of the definitions.
+    first-stores : prepared u P f A ≡ both (toLay k s g₀ es₁) (restOf a t (headBehind k s g₀ m) (r .start) ds)
+    unfolding restOf asked
+    first-stores =
+        let d : layPages (dataPages u P f A) (element ds) ≡ run (64 * r .start) (length ds) (element ds)
+        = (rw (data-run (r .start) run-some) (lay-run (r .start) c (element ds))) ∙ ap (λ n. run (64 * r .start) n (element ds)) (y .whole) in
+        log-prepared u P f A k s g₀ m et refl long₁ seeks ∙ rw (all₁, d)
+
+    some-first : m ≡ 0 → oldTail u (a .anew) (a .log) ≡ 0
+    unfolding oldTail firstCount writes
+    some-first z =
+        by-bool (a .anew) (λ o. rw o)
+        (λ o.
+        let i = y .some-entry o in
+        by-eq c 0 (λ d. absurd (omega arith)) (λ d. let w : writes c ≡ 1 = rw (ne-eqb c 0 d) in absurd (omega arith)))
+
+    -- i is how far it is laid, m₁ the list then and e the end of the group with what belongs to it: there the second log is laid
+    module _ (i : Laid) (m₁ : List ℕ) (left : (j : ℕ) → freshFrom k s i j ≡ lowestFew f₂ P 0 j) (e : ℕ) where
+      abbrev g₁ : Laid
+      g₁ = startAt e t₂ (i .from)
+
+      seeks₂ : (j : ℕ) → freshFrom k s g₁ j ≡ lowestFew (besides f₂ (dataPages u P f₂ B)) P 0 j
+      seeks₂ j = rw (second-may f₂) (left j)
+
+      second-layable : Layable k s g₁ (a .moved)
+      second-layable =
+          at-layable v b k s (y .volume) ep may-free false (a .second) (y .second) (y .second-valid) g₁ et₂ (a .moved)
+          (rw (left (neededAt t₂ (a .moved)), ← e₂) enough-second)
+
+      second-stores : allPrepared u P f₂ S ≡ secondStores k s g₁ (a .second) es₂
+      unfolding secondAsked allPrepared secondStores onlyIf layPages indexOf entriesOnly
+      second-stores =
+          let d = length-entries ws (8 * firstCount a ws) (a .moved) in
+          by-eq (a .moved) 0 (λ z. rw (d, eq-eqb (a .moved) 0 z))
+          (λ z.
+          let o = log-prepared u P f₂ B k s g₁ (a .moved) et₂ refl (second-long f₂) seeks₂ in
+          rw (d, ne-eqb (a .moved) 0 z)
+          (one-prepared u P f₂ B ∙ o
+          ∙ rw (only-entries u P f₂ false (a .second) es₂, no-data u P f₂ false (a .second) es₂, both-none)))
+
+      second-changes : allChanges u P f₂ S ≡ cond (not (eqb (a .moved) 0)) ((tailWord (a .second), tailBehind k s g₁ (a .moved)) ∷ []) []
+      unfolding secondAsked allChanges entriesOnly
+      second-changes =
+          by-eq (a .moved) 0 (λ z. rw (eq-eqb (a .moved) 0 z))
+          (λ z. rw (ne-eqb (a .moved) 0 z)
+          (one-changes u P f₂ B ∙ log-changes u P f₂ B k s g₁ (a .moved) et₂ refl (second-long f₂) seeks₂ (λ o. absurd (z o))))
+
+    -- What the parts of `make` ask. xs₀ are the words of the data's entry, of which those that are laid are xs.
+
+    abbrev w₁ : List ℕ
+    w₁ = take (8 * n) ws
+
+    abbrev w₃ : List ℕ
+    w₃ = lastOf ws (8 * n)
+
+    split : (length w₁ / 8 ≡ n) × (entriesOf w₁ 0 n ≡ entriesOf ws 0 n) × (length w₃ / 8 ≡ a .moved) × (entriesOf w₃ 0 (a .moved) ≡ entriesOf ws (8 * n) (a .moved))
+    split =
+        let o = first-entries ws n (omega arith) in
+        let q = last-entries ws (a .moved) (y .moved) in
+        (o .0, o .1, q .0, q .1)
 
     module _ (i₀ p₀ c₀ z₀ : ℕ) (xs₀ : List ℕ) (e₀ : xs₀ ≡ writeWords i₀ p₀ c₀ z₀) where
       abbrev xs : List ℕ
       xs = take (8 * more) xs₀
 
-      ex : 8 * more ≡ length xs
-      ex = slice-long more i₀ p₀ c₀ z₀ xs₀ e₀ few-more
+      count-is : length w₁ / 8 + length xs / 8 ≡ m
+      count-is = let o = split .0 in omega (arith, slice-long more i₀ p₀ c₀ z₀ xs₀ e₀ few-more)
 
-      pub lay-asks : (s .pages ≤ 4096) × Layable k s (startAt t) (length ws / 8 + length xs / 8) × (18 * (length ws / 8 + length xs / 8) ≤ length l)
-      lay-asks =
-          let e : length ws / 8 + length xs / 8 ≡ m = omega (arith, ex) in
-          (omega (arith, few .0), rw e log-layable, omega (arith, few-more, y .room))
+      pub lay-asks : (s .pages ≤ 4096) × Layable k s g₀ (length w₁ / 8 + length xs / 8) × (0 + 18 * (length w₁ / 8 + length xs / 8) ≤ length l)
+      lay-asks = (omega (arith, few .0), rw count-is first-layable, omega (arith, count-is, few-more, y .room))
 
-      -- g is how far the log is laid, and m₁ the list then
-      module _ (i : Laid) (m₁ : List ℕ) (d : LogLaid k s l t ws xs i m₁) where
-        pub rest-asks : (a .log < 4294967296) × (a .other < 4294967296) × (64 * r .start + length ds ≤ 262144) × (i .end + 2 * length ds + 6 ≤ length m₁)
+      -- i is how far the first log is laid, and m₁ the list then
+      module _ (i : Laid) (m₁ : List ℕ) (d : LogLaid k s l g₀ w₁ xs i m₁) where
+        pub left : (j : ℕ) → freshFrom k s i j ≡ lowestFew f₂ P 0 j
+        unfolding asked
+        left = log-left u P f A k s g₀ m et refl long₁ seeks (first-layable .enough) i (rw count-is at (d .left))
+
+        pub rest-asks : (a .log < 4294967296) × (64 * r .start + length ds ≤ 262144) × (i .end + 2 * length ds + 2 ≤ length m₁)
         rest-asks = (
           omega (arith, few .1, y .log),
-          omega (arith, few .1, y .other),
           omega (arith, few .0, start-inside),
-          omega (arith, ex, few-more, y .room, d .end, d .stores .long),
+          omega (arith, count-is, few-more, y .room, d .end, d .stores .long),
         )
 
-        pub commit-asks : (e h z : ℕ) (m₂ cs : List ℕ) → Added m₁ 0 (i .end) (restOf a t r ds) e m₂ → e ≤ i .end + 2 * length ds + 6 → Commits a h z cs
-            → Pairs v cs × (2 ≤ length cs) × (e + 3 * length cs + 12 ≤ length m₂)
-        commit-asks e h z m₂ cs o q w =
-            (ready-pairs v b a ws ds l y h z cs w, w .some, omega (arith, ex, few-more, y .room, d .end, d .stores .long, o .long, w .few))
+        -- e is the end of the group with what belongs to it, and m₂ the list then
+        module _ (e : ℕ) (m₂ : List ℕ) (s₁ : Stores) (added : Added m₁ 0 (i .end) s₁ e m₂) (end : e ≤ i .end + 2 * length ds + 2) where
+          abbrev long : length m₂ ≡ length m₁
+          long = added .long
 
-    -- `make`: g is how far the log was laid, e the end of the first group, and z the end of the list
-    pub fills : (g : Laid) (e z : ℕ) (xs cs m₁ m₂ m₃ : List ℕ) → xs ≡ writeWords (a .file) (r .start) c (a .size)
-        → LogLaid k s l t ws (take (8 * more) xs) g m₁ → Added m₁ 0 (g .end) (restOf a t r ds) e m₂ → Commits a (r .first) (g .tail) cs
-        → Committed v m₂ e (changesOf cs) z m₃ → z ≤ length m₂ → Comes (outcome v (actionOf a ws ds)) l (Number z) m₃
-    unfolding outcome actionOf actionChecks actionGroups roomChecks
-    fills g e z xs cs m₁ m₂ m₃ e₂ x₁ x₂ x₃ x₄ x₅ =
+          pub second-asks : (s .pages ≤ 4096) × (a .second < 4294967296) × Layable k s (startAt e t₂ (i .from)) (length w₃ / 8)
+              × (e + 18 * (length w₃ / 8) + 2 ≤ length m₂)
+          second-asks =
+              let o = split .2 in (
+                omega (arith, few .0),
+                omega (arith, few .1, y .second),
+                rw o (second-layable i m₁ left e),
+                omega (arith, count-is, few-more, y .room, y .moved, d .end, d .stores .long),
+              )
+
+          -- h is how far the second log is laid, and m₃ the list then
+          module _ (o : ℕ) (h : Laid) (m₃ : List ℕ) (w : SecondLaid k s m₂ (startAt e t₂ (i .from)) o w₃ h m₃) where
+            pub new-asks : (a .other < 4294967296) × (h .end + 4 ≤ length m₃)
+            new-asks =
+                let q = split .2 in
+                (omega (arith, few .1, y .other), omega (arith, count-is, few-more, y .room, y .moved, d .end, d .stores .long, w .end, w .stores .long))
+
+            -- z of the words cs commit, behind index e₂
+            pub commit-asks : (e₂ z h₀ t₀ t₃ : ℕ) (m₄ c₀ cs : List ℕ) (s₂ : Stores) → Added m₃ 0 (h .end) s₂ e₂ m₄ → e₂ ≤ h .end + 4
+                → Emitted c₀ 0 (pairsOf (committing a h₀ t₀ t₃)) z cs → 8 ≤ length c₀ → z ≤ 8
+                → Pairs v (take z cs) × (2 ≤ length (take z cs)) × (e₂ + 3 * length (take z cs) + 12 ≤ length m₄)
+            commit-asks e₂ z h₀ t₀ t₃ m₄ c₀ cs s₂ p q g room most =
+                let b₁ = closed-bytes v b (y .volume) in
+                let q₃ = split .2 in
+                let j = put-words c₀ cs z _ g room most in
+                let o₁ = pairs-long (committing a h₀ t₀ t₃) in
+                let o₂ = some-committed a h₀ t₀ t₃ in
+                let o₃ : length (take z cs) ≡ 2 * length (committing a h₀ t₀ t₃) = ap length j ∙ o₁ in
+                let o₄ : z ≡ 0 + length (pairsOf (committing a h₀ t₀ t₃)) = g .end in (
+                  record {
+                    page = omega (arith, few .2);
+                    enqueue = closed-enqueue v b (y .volume);
+                    inside = λ x l.
+                        let i = committing-below (64 * P) a h₀ t₀ t₃ (omega (arith, few .2, y .log)) (omega (arith, few .2, y .second)) (omega (arith, few .2, y .other)) x (omega arith) in
+                        rw j (omega arith);
+                  },
+                  omega arith,
+                  omega (arith, count-is, few-more, y .room, y .moved, d .end, d .stores .long, w .end, w .stores .long),
+                )
+
+    -- Stores beside the logs lie in the volume.
+    rest-low : (h : ℕ) → Only (λ w. w < 64 * P) (restOf a t h (r .start) ds)
+    unfolding restOf headOf
+    rest-low h =
+        let M : ℕ → ℕ → Type 0 = λ w x. w < 64 * P in
+        let n = few .2 in
+        let i = y .log in
+        let g = start-inside in
+        only-both (only-if _ (λ e. only-word M (headWord (a .log)) h (omega arith))) (only-run M (64 * r .start) (length ds) (element ds) (λ q h. omega arith))
+
+    new-low : Only (λ w. w < 64 * P) (zeroed a)
+    unfolding zeroed
+    new-low =
+        let M : ℕ → ℕ → Type 0 = λ w x. w < 64 * P in
+        let n = few .2 in
+        let j = y .other in
+        only-if _ (λ e. only-both (only-word M (headWord (a .other)) 0 (omega arith)) (only-word M (tailWord (a .other)) 0 (omega arith)))
+
+    second-low : (g : Laid) → g .tail ≡ t₂ → (es : List (List ℕ)) → Only (λ w. w < 64 * P) (secondStores k s g (a .second) es)
+    unfolding secondStores headOf
+    second-low g eg es =
+        let M : ℕ → ℕ → Type 0 = λ w x. w < 64 * P in
+        let n = few .2 in
+        let j = y .second in
+        only-if _ (λ e. only-both (at-low v b k s (y .volume) ep may-free false (a .second) (y .second) (y .second-valid) g (eg ∙ et₂) es)
+        (only-if _ (λ e. only-word M (headWord (a .second)) _ (omega arith))))
+
+    -- `make`: i and h are how far the logs were laid, e₁ and e₂ the ends of the first group, and z the end of the list
+    pub fills : (i h : Laid) (e e₃ z zs : ℕ) (xs₀ c₀ cs m₁ m₂ m₃ m₄ m₅ : List ℕ) → xs₀ ≡ writeWords (a .file) (r .start) c (a .size)
+        → LogLaid k s l g₀ w₁ (take (8 * more) xs₀) i m₁ → Added m₁ 0 (i .end) (restOf a t (i .head) (r .start) ds) e m₂
+        → SecondLaid k s m₂ (startAt e t₂ (i .from)) (a .second) w₃ h m₃ → Added m₃ 0 (h .end) (zeroed a) e₃ m₄
+        → Emitted c₀ 0 (pairsOf (committing a (i .head) (i .tail) (h .tail))) zs cs → 8 ≤ length c₀ → zs ≤ 8
+        → Committed v m₄ e₃ (changesOf (take zs cs)) z m₅ → z ≤ length m₄ → Comes (outcome v (actionOf a ws ds)) l (Number z) m₅
+    unfolding outcome actionOf actionChecks actionGroups roomChecks allPrepared allChanges committing firstCount asked
+    fills i h e e₃ z zs xs₀ c₀ cs m₁ m₂ m₃ m₄ m₅ e₀ x₁ x₂ x₃ x₄ x₅ room most x₆ x₇ =
         let W : length v / 8 ≡ 64 * P = let q = closed-bytes v b (y .volume) in omega arith in
-        let d : LogLaid k s l t ws (w₂ (r .start) run-some) g m₁ = rw (em, e₂) at x₁ in
-        let n : length ws / 8 + length (w₂ (r .start) run-some) / 8 ≡ m = rw (writes-long (a .file) (r .start) c (a .size), em) in
-        let q : Added l 0 0 (both (toLay k s (startAt t) es) (restOf a t r ds)) e m₂ = added-both (d .stores) x₂ in
-        let group = group-of (64 * P) q (only-both log-low rest-low) in
-        let list = rw W at (x₄ .list l (both (toLay k s (startAt t) es) (restOf a t r ds)) (rw W group)) in
-        let gs : storeList (64 * P) (commit u (both (toLay k s (startAt t) es) (restOf a t r ds)) (changesOf cs))
-        ≡ storeList (64 * P) (commit u (both (allPrepared u P f (B ∷ [])) (zeroed a)) (allChanges u P f (B ∷ []) ++ alsoCommitted a))
-        = rw (group-is, changes-are (g .tail) (d .tail ∙ ap (tailBehind k s (startAt t)) n), x₃ .changes) in
+        let o = split in
+        let n₁ = count-is (a .file) (r .start) c (a .size) xs₀ e₀ in
+        let g₁ = startAt e t₂ (i .from) in
+        let i-left = left (a .file) (r .start) c (a .size) xs₀ e₀ i m₁ x₁ in
+        let s₁ : entriesOf w₁ 0 (length w₁ / 8) ++ entriesOf (take (8 * more) xs₀) 0 (length (take (8 * more) xs₀) / 8) ≡ es₁ = rw (o .0, o .1, em, e₀) in
+        let p₁ : Added l 0 0 (toLay k s g₀ es₁) (i .end) m₁ = rw s₁ at (x₁ .stores) in
+        let p₃ : Added m₂ 0 e (secondStores k s g₁ (a .second) es₂) (h .end) m₃ = rw (o .2, o .3) at (x₃ .stores) in
+        let G = both (both (both (toLay k s g₀ es₁) (restOf a t (i .head) (r .start) ds)) (secondStores k s g₁ (a .second) es₂)) (zeroed a) in
+        let q : Added l 0 0 G e₃ m₄ = added-both (added-both (added-both p₁ x₂) p₃) x₄ in
+        let first-low = at-low v b k s (y .volume) ep may-free (a .anew) (a .log) (y .log) (y .valid) g₀ et es₁ in
+        let group = group-of (64 * P) q (only-both (only-both (only-both first-low (rest-low (i .head))) (second-low g₁ refl es₂)) new-low) in
+        let head-is : i .head ≡ headBehind k s g₀ m = x₁ .head ∙ ap (headBehind k s g₀) n₁ in
+        let tail-is : i .tail ≡ tailBehind k s g₀ m = x₁ .tail ∙ ap (tailBehind k s g₀) n₁ in
+        let tail₂-is : h .tail ≡ tailBehind k s g₁ (a .moved) = x₃ .tail ∙ ap (tailBehind k s g₁) (o .2) in
+        let stores : both (allPrepared u P f (A ∷ S)) (zeroed a) ≡ G = rw (first-stores, second-stores i m₁ i-left e, head-is) in
+        let changes : allChanges u P f (A ∷ S) ++ alsoCommitted a ≡ committing a (i .head) (i .tail) (h .tail)
+        = rw (log-changes u P f A k s g₀ m et refl long₁ seeks some-first, second-changes i m₁ i-left e, head-is, tail-is, tail₂-is) in
+        let list = rw W at (x₆ .list l G (rw W group)) in
+        let gs : storeList (64 * P) (commit u G (changesOf (take zs cs)))
+        ≡ storeList (64 * P) (commit u (both (allPrepared u P f (A ∷ S)) (zeroed a)) (allChanges u P f (A ∷ S) ++ alsoCommitted a))
+        = rw (stores, changes, put-changes c₀ cs zs _ x₅ room most) in
         let done-list = rw gs at list in
-        let ok : lacksRoom u P f (B ∷ []) ≡ false = lacks ∙ (rw h) in
-        rw ok (comes-words (done-list) (omega (arith, x₅, x₂ .long, d .stores .long)))
+        let ok : lacksRoom u P f (A ∷ S) ≡ false = lacks ∙ no in
+        rw ok (comes-words done-list (omega (arith, x₇, q .long)))

@@ -1,5 +1,5 @@
 -- Clean behind the gate: an inode that is not there is refused, an empty log is left, and any other log is an append that writes it anew.
-use Rattle.model.proofs.Prelude.{ℕ, zero, suc, _+_, _*_, _/_, _≤_, _<_, _≡_, refl, sym, _∙_, Bool, true, false, not, _||_, List, [], _∷_, arith, le-leb, lt-leb, lt-ltb, le-ltb, leb-false, eq-eqb, ne-eqb, not-false, leb, length, take, length-take, getD-take, length-take-le}
+use Rattle.model.proofs.Prelude.{ℕ, _+_, _*_, _/_, _≤_, _<_, _≡_, refl, sym, _∙_, Bool, true, false, not, _||_, List, [], _∷_, arith, le-leb, lt-leb, lt-ltb, le-ltb, leb-false, eq-eqb, ne-eqb, not-false, leb, length, take, length-take, length-take-le}
 use Rattle.model.specs.Words.{Mem, word}
 use Rattle.model.specs.Layout.{root, tailWord}
 use Rattle.model.specs.Journal.{view}
@@ -10,14 +10,14 @@ use Rattle.model.specs.Stores.{noWords, storeList}
 use Rattle.model.specs.Answer.{notThere}
 use Rattle.model.specs.Calls.{cleanFile, cleanNames, cleanEntries, cleanAction, entriesOnly, checks, groups, action, actionChecks, actionGroups}
 use Rattle.model.proofs.Tests.{by-lt, or-false}
-use Rattle.model.proofs.Lists.{values-same}
+use Rattle.entries.proofs.Entries.{entries-take}
 use Rattle.model.proofs.Frame.View.{log-ok}
 use Rattle.log.specs.Ready.{Ready}
 use Rattle.directory.specs.Places.{standing}
 use Rattle.names.specs.Inodes.{Readable, below, validIn}
 use Rattle.files.specs.State.{fileFrom}
 use Rattle.inodes.specs.Judged.{Closed}
-use Rattle.entries.specs.Table.{element, entriesOf, Holds}
+use Rattle.entries.specs.Table.{entriesOf, Holds}
 use Rattle.answer.specs.Comes.{Comes, cameTo}
 use Rattle.answer.specs.declared.Answer.{Answer}
 use Rattle.answer.specs.declared.Answer.the-variants.{Number, NotThere}
@@ -26,31 +26,24 @@ use Rattle.answer.proofs.Coming.{comes-refused, comes-none, comes-as}
 use Rattle.append.specs.declared.Append.{Append}
 use Rattle.append.specs.Appended.{plain, actionOf, outcome, Ready as AppendReady}
 use Rattle.append.proofs.Volumes.{closed-bytes, closed-sizes, closed-fine}
-use Rattle.append.proofs.Outcomes.{asked-only, zeroed-none, also-nothing}
+use Rattle.append.proofs.Outcomes.{one-ready, one-log, asked-only, zeroed-none, also-nothing}
 use Rattle.gate.specs.Gated.{fillChecks, Gated}
 use Rattle.gate.proofs.Gates.{gate-long, gate-ready, gate-readable}
 use Rattle.gate.proofs.Lists.{fill-refused, fill-behind, fill-long, fill-closed, fill-view}
 use Rattle.cleaning.specs.Cleanable.{Cleanable}
 
--- The first words of a table have its first entries.
-first-entries : (ws : List ℕ) (m j k : ℕ) → k + 8 * j ≤ m → entriesOf (take m ws) k j ≡ entriesOf ws k j
-unfolding entriesOf
-first-entries ws m zero k h = refl
-first-entries ws m (suc j) k h =
-    rw (values-same (element (take m ws)) (element ws) k 8 (λ i a b. getD-take m ws i 0 (omega arith)), first-entries ws m j (k + 8) (omega arith))
-
--- .. and are as many as these take
+-- the first words of a table are as many as its first entries take
 pub slice-long : (ws₀ ws : List ℕ) (r : ℕ) (es : List (List ℕ)) → Holds ws₀ ws r es → length ws₀ ≡ 1792 → r ≤ 224 → 8 * r ≡ length (take (8 * r) ws)
 slice-long ws₀ ws r es h e f = sym (length-take-le (8 * r) ws (omega (arith, h .long)))
 
 -- the append that writes the log of inode k anew, and what it comes to
 abbrev anewOf : ℕ → Append
-anewOf k = record { log = k; anew = true; file = 0; size = 0; other = 0; valid = 0 }
+anewOf k = record { log = k; anew = true; file = 0; size = 0; second = 0; moved = 0; other = 0; valid = 0 }
 
 anew-outcome : (v : List ℕ) (k : ℕ) (ws : List ℕ) (es : List (List ℕ)) → entriesOf ws 0 (length ws / 8) ≡ es
     → outcome v (actionOf (anewOf k) ws []) ≡ outcome v (plain (entriesOnly true k es ∷ []) noWords [])
-unfolding actionOf
-anew-outcome v k ws es p = rw (asked-only (anewOf k) ws refl refl, p, zeroed-none (anewOf k) refl, also-nothing (anewOf k) refl)
+anew-outcome v k ws es p =
+    rw (one-log (anewOf k) ws [] refl, asked-only (anewOf k) ws refl refl refl, p, zeroed-none (anewOf k) refl, also-nothing (anewOf k) refl)
 
 -- `clean_entries`
 module _ (v : List ℕ) (n : ℕ) (places : List ℕ) (k : ℕ) (c : Cleanable v n places k) where
@@ -156,16 +149,8 @@ module _ (v l : List ℕ) (n : ℕ) (places marks : List ℕ) (g : Gated v root 
       anew-ready o f ws r few =
           let s = length-take (8 * r) ws in
           let t = fill-long v l (Number n) places marks g n refl in
-          rw f (record {
-            volume = closed-here;
-            log = is-below;
-            valid = is-valid;
-            other = omega (arith, is-below);
-            some-entry = λ e. absurd (let j : _≡_ {A = ℕ} 0 1 = cc in omega arith);
-            few = omega arith;
-            whole = refl;
-            room = omega arith;
-          })
+          rw f (one-ready v marks (anewOf k) (take (8 * r) ws) [] l closed-here refl refl is-below is-valid (omega (arith, is-below))
+          (λ e. absurd (let j : _≡_ {A = ℕ} 0 1 = cc in omega arith)) (omega arith) refl (omega arith))
 
       -- x is the tail, read from word w
       module _ (w x : ℕ) (i : w ≡ tailWord k) (b : x ≡ m w) where
@@ -182,7 +167,7 @@ module _ (v l : List ℕ) (n : ℕ) (places marks : List ℕ) (g : Gated v root 
           table-entries : entriesOf (take (8 * r) ws) 0 (length (take (8 * r) ws) / 8) ≡ cleanEntries m (m 0) (m 1) k
           table-entries =
               let e : length (take (8 * r) ws) / 8 ≡ r = omega (arith, slice-long ws₀ ws r _ h long few) in
-              rw e (first-entries ws (8 * r) r 0 (omega arith) ∙ (rw same-view at (h .entries)))
+              rw e (entries-take ws (8 * r) 0 r (omega arith) ∙ (rw same-view at (h .entries)))
 
           pub anew-comes : (t : Answer) (l′ : List ℕ) → Comes (outcome v (actionOf o (take (8 * r) ws) [])) l t l′ → Comes (cameTo v l (clean k)) l t l′
           unfolding outcome actionChecks actionGroups cleanAction

@@ -62,7 +62,17 @@ fn clean_log(
     let mut words = [0u64; 1792];
     let n = layout::ENTRY_WORDS * clean_entries(v, places, count, k, &mut words);
     let none = [0u64; 1];
-    append::make(v, marks, Append::anew(k), &words[..n], &none[..0], list)
+    let a = Append {
+        log: k,
+        anew: true,
+        file: 0,
+        size: 0,
+        second: layout::ROOT,
+        moved: 0,
+        other: 0,
+        valid: 0,
+    };
+    append::make(v, marks, a, &words[..n], &none[..0], list)
 }
 
 // Fills the list that writes an inode's log anew, with the entries that its state needs and no others, and answers Number with the

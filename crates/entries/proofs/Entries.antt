@@ -1,5 +1,5 @@
 -- Entries laid into a table: an entry is put word by word, and behind the entries that were there it is one more.
-use Rattle.model.proofs.Prelude.{ℕ, zero, suc, _+_, _*_, _≤_, _<_, _≡_, refl, sym, _∙_, List, [], _∷_, _++_, append-assoc, append-nil, arith, zero-add, length, set, length-set, ext-getD, getD-set-same, getD-set-other}
+use Rattle.model.proofs.Prelude.{ℕ, zero, suc, _+_, _*_, _≤_, _<_, _≡_, refl, sym, _∙_, List, [], _∷_, _++_, append-assoc, append-nil, arith, zero-add, length, set, length-set, ext-getD, getD-set-same, getD-set-other, take, drop, getD-take, getD-drop}
 use Rattle.model.proofs.Tests.{by-eq}
 use Rattle.model.proofs.Lists.{length-values, values-at, values-same}
 use Rattle.entries.specs.Table.{element, part, entriesOf, Holds, Put}
@@ -19,6 +19,26 @@ part-is m e k h g =
 pub one-entry : (e : List ℕ) → length e ≡ 8 → entriesOf e 0 1 ≡ e ∷ []
 unfolding entriesOf
 one-entry e h = rw (part-is e e 0 h (λ o g. rw zero-add))
+
+-- the first words of a list have its first entries, and the words behind them the others
+pub entries-take : (ws : List ℕ) (m k n : ℕ) → k + 8 * n ≤ m → entriesOf (take m ws) k n ≡ entriesOf ws k n
+unfolding entriesOf
+entries-take ws m k zero h = refl
+entries-take ws m k (suc n) h =
+    rw (values-same (element (take m ws)) (element ws) k 8 (λ i a b. getD-take m ws i 0 (omega arith)), entries-take ws m (k + 8) n (omega arith))
+
+pub entries-drop : (ws : List ℕ) (m k n : ℕ) → entriesOf (drop m ws) k n ≡ entriesOf ws (m + k) n
+unfolding entriesOf
+entries-drop ws m k zero = refl
+entries-drop ws m k (suc n) =
+    let e : part (drop m ws) k 8 ≡ part ws (m + k) 8
+    = ext-getD 0 (part (drop m ws) k 8) (part ws (m + k) 8) (length-values (element (drop m ws)) k 8 ∙ sym (length-values (element ws) (m + k) 8))
+    (λ o b.
+    let c : o < 8 = rw length-values at b in
+    let d : m + (k + o) ≡ m + k + o = omega arith in
+    values-at (element (drop m ws)) k 8 o c ∙ getD-drop m ws (k + o) 0 ∙ (rw d (sym (values-at (element ws) (m + k) 8 o c)))) in
+    let f : m + (k + 8) ≡ m + k + 8 = omega arith in
+    rw (e, entries-drop ws m (k + 8) n, f)
 
 -- The loop of `put_entry`: the table l is m by now, with the first i words of e laid from element `at` on.
 

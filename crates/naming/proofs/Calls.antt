@@ -31,7 +31,7 @@ use Rattle.answer.proofs.Coming.{comes-none, comes-as}
 use Rattle.append.specs.declared.Append.{Append}
 use Rattle.append.specs.Appended.{zeroed, alsoCommitted, plain, actionOf, outcome, Ready}
 use Rattle.append.proofs.Volumes.{closed-sizes, closed-fine}
-use Rattle.append.proofs.Outcomes.{asked-only, zeroed-new, zeroed-none, also-new, also-nothing}
+use Rattle.append.proofs.Outcomes.{one-ready as one-log-ready, one-log, asked-only, zeroed-new, zeroed-none, also-new, also-nothing}
 use Rattle.gate.specs.Gated.{rootNames, fillChecks, Gated}
 use Rattle.gate.proofs.Gates.{same-number}
 use Rattle.gate.proofs.Lists.{fill-refused, fill-long, fill-closed, fill-view}
@@ -83,19 +83,6 @@ released-is u P N x =
     (λ t. by-bool (eqb i 0) (λ z. no (rw z at t)) (λ z. rw (t, z)))
     (λ t. rw t)
 
--- `append_root`: b and a are the append as the code makes it
-module _ (b a : Append) (o x : ℕ) (p : b ≡ rootAppend 0 0)
-    (q : a ≡ record { log = b .log; anew = b .anew; file = b .file; size = b .size; other = o; valid = x }) where
-  same-append : a ≡ rootAppend o x
-  same-append = q ∙ rw p
-
-  pub made-ready : (v m ws l : List ℕ) → Ready v m (rootAppend o x) ws [] l → Ready v m a ws [] l
-  made-ready v m ws l y = rw same-append y
-
-  pub made-comes : (v ws l : List ℕ) (r : Answer) (l′ : List ℕ) → Comes (outcome v (actionOf a ws [])) l r l′
-      → Comes (outcome v (actionOf (rootAppend o x) ws [])) l r l′
-  made-comes v ws l r l′ y = rw same-append at y
-
 -- one entry, as its eight words
 one-named : (e w : List ℕ) → e ≡ w → length w ≡ 8 → entriesOf e 0 (length e / 8) ≡ w ∷ []
 one-named e w q h = rw (q, h) (one-entry w h)
@@ -135,16 +122,8 @@ module _ (v l : List ℕ) (r : Answer) (places marks : List ℕ) (g : Gated v ro
   root-ready : (o x : ℕ) (ws : List ℕ) → o < m 1 → 8 ≤ length ws → length ws ≤ 16 → Ready v marks (rootAppend o x) ws [] l
   root-ready o x ws h f k =
       let s = list-long in
-      record {
-        volume = closed-here;
-        log = some-inodes;
-        valid = root-valid m (m 0) (m 1) (closed-fine v marks closed-here) some-inodes;
-        other = h;
-        some-entry = λ z. omega arith;
-        few = omega arith;
-        whole = refl;
-        room = omega arith;
-      }
+      one-log-ready v marks (rootAppend o x) ws [] l closed-here refl refl some-inodes (root-valid m (m 0) (m 1) (closed-fine v marks closed-here) some-inodes) h
+      (λ z. omega arith) (omega arith) refl (omega arith)
 
   -- one entry w, as the code has it, and two, put into an array of 16 words
   pub one-ready : (o x : ℕ) (w es : List ℕ) → w ≡ es → length es ≡ 8 → o < m 1 → Ready v marks (rootAppend o x) w [] l
@@ -157,8 +136,7 @@ module _ (v l : List ℕ) (r : Answer) (places marks : List ℕ) (g : Gated v ro
   root-outcome : (o x : ℕ) (ws : List ℕ) (es : List (List ℕ)) (s : Stores) (cs : List Change) → entriesOf ws 0 (length ws / 8) ≡ es
       → zeroed (rootAppend o x) ≡ s → alsoCommitted (rootAppend o x) ≡ cs
       → outcome v (actionOf (rootAppend o x) ws []) ≡ outcome v (plain (entriesOnly false root es ∷ []) s cs)
-  unfolding actionOf
-  root-outcome o x ws es s cs p q w = rw (asked-only (rootAppend o x) ws refl refl, p, q, w)
+  root-outcome o x ws es s cs p q w = rw (one-log (rootAppend o x) ws [] refl, asked-only (rootAppend o x) ws refl refl refl, p, q, w)
 
   -- Create: N is the inode count as the code read it, t what the first checks answered.
   module _ (x : List ℕ) (N : ℕ) (q : N ≡ m 1) (t : Answer) (h : meaning t ≡ numbered (firstRefusal (createFirst (view m) N found x) (done (freeInode (view m) N)))) where

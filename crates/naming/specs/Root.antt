@@ -8,7 +8,7 @@ use Rattle.append.specs.declared.Append.{Append}
 
 -- an append to the directory's log; the valid word of inode o becomes x
 abbrev pub rootAppend : ℕ → ℕ → Append
-rootAppend o x = record { log = 0; anew = false; file = 0; size = 0; other = o; valid = x }
+rootAppend o x = record { log = 0; anew = false; file = 0; size = 0; second = 0; moved = 0; other = o; valid = x }
 
 -- the inode i, if exactly one of the names leads to it; else 0
 unfoldable pub lastNamed : Names → ℕ → ℕ

@@ -28,7 +28,16 @@ fn append_root(
         (now (list .exit)) ⌝ }
 {
     let none = [0u64; 1];
-    let a = Append::to(layout::ROOT).with(other, valid);
+    let a = Append {
+        log: layout::ROOT,
+        anew: false,
+        file: 0,
+        size: 0,
+        second: layout::ROOT,
+        moved: 0,
+        other,
+        valid,
+    };
     append::make(v, marks, a, entries, &none[..0], list)
 }
 

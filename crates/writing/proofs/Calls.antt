@@ -26,7 +26,7 @@ use Rattle.answer.proofs.Codes.{NoNumber}
 use Rattle.answer.proofs.Coming.{comes-refused, comes-none, comes-as}
 use Rattle.append.specs.declared.Append.{Append}
 use Rattle.append.specs.Appended.{asked, plain, actionOf, outcome, Ready}
-use Rattle.append.proofs.Outcomes.{zeroed-none, also-nothing, outcome-words}
+use Rattle.append.proofs.Outcomes.{one-ready, one-log, all-first, zeroed-none, also-nothing, outcome-words}
 use Rattle.gate.specs.Gated.{fillChecks}
 use Rattle.gate.proofs.Gates.{same-refusal, none-refuses}
 use Rattle.gate.proofs.Lists.{filledWords, ownChecks, came, comes-told}
@@ -39,7 +39,7 @@ use Rattle.writing.proofs.Words.{written-taken, written-at, write-words
 
 -- an append of data, file pages from i on of a file of z bytes, to the log of inode k
 abbrev fileAppend : ℕ → ℕ → ℕ → Append
-fileAppend k i z = record { log = k; anew = false; file = i; size = z; other = 0; valid = 0 }
+fileAppend k i z = record { log = k; anew = false; file = i; size = z; second = 0; moved = 0; other = 0; valid = 0 }
 
 -- Call c asks whether inode k is a file, and then the rest.
 module _ (v l : List ℕ) (c : Call) (closed : needsClosed c ≡ true) (k : ℕ) (rest : Checks)
@@ -67,13 +67,9 @@ module _ (v l : List ℕ) (c : Call) (closed : needsClosed c ≡ true) (k : ℕ)
     behind : (s : ℕ) → r ≡ Number s → cameTo v l c ≡ firstRefusal rest (done (filledWords v c))
     behind s e = staged ∙ none-refuses first _ s (rw e at sized) (firstRefusal rest (done (filledWords v c)))
 
--- An append to the file's log: b and d are the append as the code makes it.
+-- An append to the file's log: d is the append as the code makes it.
 module _ (v l : List ℕ) (h : 4096 ≤ length l) (k s : ℕ) (marks t : List ℕ) (f : FileState v k s marks t)
-    (i z : ℕ) (b d : Append) (p : b ≡ fileAppend k 0 0)
-    (q : d ≡ record { log = b .log; anew = b .anew; file = i; size = z; other = b .other; valid = b .valid }) where
-  same-append : d ≡ fileAppend k i z
-  same-append = q ∙ rw p
-
+    (i z : ℕ) (d : Append) (same-append : d ≡ fileAppend k i z) where
   valid-here : isValid (word v) k ≡ true
   unfolding noFile
   valid-here = rw (closed-view (word v) (f .closed)) at (there-valid (view (word v)) (word v 1) k (f .there))
@@ -83,24 +79,16 @@ module _ (v l : List ℕ) (h : 4096 ≤ length l) (k s : ℕ) (marks t : List �
   file-ready ws ds x few most whole =
       let g = file-below v k s marks t f in
       rw same-append
-      (record {
-        volume = record { volume = f .volume; good = f .good; closed = f .closed; served = f .served };
-        log = g;
-        valid = valid-here;
-        other = omega arith;
-        some-entry = λ y. x;
-        few = omega arith;
-        whole = whole;
-        room = omega arith;
-      })
+      (one-ready v marks (fileAppend k i z) ws ds l (record { volume = f .volume; good = f .good; closed = f .closed; served = f .served }) refl refl g valid-here
+      (omega arith) (λ y. x) (omega arith) whole (omega arith))
 
   file-outcome : (ws ds : List ℕ) (es : List (List ℕ)) (c : ℕ) (g : ℕ → ℕ) → entriesOf ws 0 (length ws / 8) ≡ es → length ds / 64 ≡ c
       → ((j : ℕ) → j < 64 * c → element ds j ≡ g j)
       → outcome v (plain (record { log = k; anew = false; entries = es; file = i; count = c; words = g; size = z } ∷ []) noWords [])
       ≡ outcome v (actionOf d ws ds)
-  unfolding actionOf asked
+  unfolding asked
   file-outcome ws ds es c g x y same =
-      rw (same-append, x, y, zeroed-none (fileAppend k i z) refl, also-nothing (fileAppend k i z) refl)
+      rw (same-append, one-log (fileAppend k i z) ws ds refl, all-first (fileAppend k i z) ws refl, x, y, zeroed-none (fileAppend k i z) refl, also-nothing (fileAppend k i z) refl)
       (sym (outcome-words v k false es i c z (element ds) g same noWords []))
 
 -- the first n elements of an array
@@ -155,15 +143,14 @@ module _ (v l : List ℕ) (k o : ℕ) (bs : List ℕ) where
           -- c pages are covered, and ds is the array with their words; b and d are the append as the code makes it, of data from file page f on
           module _ (y : length bs ≡ 0 → ⊥) (c : ℕ) (x : c ≡ pagesCovered o (o + length bs)) (ds : List ℕ)
               (w : ds ≡ laid (replicate 576 0) 0 (freshWord (writtenOver (word v) t o bs) o) 0 (64 * pagesCovered o (o + length bs)))
-              (f z : ℕ) (b d : Append) (p : b ≡ fileAppend k 0 0)
-              (q : d ≡ record { log = b .log; anew = b .anew; file = f; size = z; other = b .other; valid = b .valid }) where
+              (f z : ℕ) (d : Append) (q : d ≡ fileAppend k f z) where
             write-taken : 64 * c ≡ length (take (64 * c) ds)
             write-taken = written-taken (word v) t o bs i c x ds w
 
             pub write-ready : Ready v marks d [] (take (64 * c) ds) l
             write-ready =
                 let n = write-taken in
-                file-ready v l h k s marks t (a .state s e) f z b d p q [] (take (64 * c) ds) (omega arith) (omega arith) (omega arith) (omega arith)
+                file-ready v l h k s marks t (a .state s e) f z d q [] (take (64 * c) ds) (omega arith) (omega arith) (omega arith) (omega arith)
 
             write-is : cameTo v l (write k o bs) ≡ outcome v (plain (written ∷ []) noWords [])
             unfolding groups action actionGroups writeAction outcome actionChecks
@@ -184,7 +171,7 @@ module _ (v l : List ℕ) (k o : ℕ) (bs : List ℕ) where
                 comes-as (cameTo v l (write k o bs)) (outcome v (actionOf d [] (take (64 * c) ds))) l r′ m
                 (write-is
                 ∙ rw larger
-                (file-outcome v l h k s marks t (a .state s e) (o / 512) z b d p (rw page at q) [] (take (64 * c) ds) [] (pagesCovered o (o + length bs))
+                (file-outcome v l h k s marks t (a .state s e) (o / 512) z d (rw page at q) [] (take (64 * c) ds) [] (pagesCovered o (o + length bs))
                 (written .words) refl (omega arith) (rw x (taken (64 * pagesCovered o (o + length bs)) ds (written .words) write-at)))) g
 
 size-long : (z : ℕ) → length (sizeWords z) ≡ 8
@@ -229,8 +216,7 @@ module _ (v l : List ℕ) (k z : ℕ) where
 
         -- n words were laid, and es is the entry; b and d are the append as the code makes it, of data from file page f on
         module _ (y : z ≡ s → ⊥) (n : ℕ) (ds : List ℕ) (w : Kept (word v) t s z n ds) (u : ℕ) (es : List ℕ) (x : es ≡ sizeWords u)
-            (f z′ : ℕ) (b d : Append) (p : b ≡ fileAppend k 0 0)
-            (q : d ≡ record { log = b .log; anew = b .anew; file = f; size = z′; other = b .other; valid = b .valid }) where
+            (f z′ : ℕ) (d : Append) (q : d ≡ fileAppend k f z′) where
           size-taken : n ≡ length (take n ds)
           size-taken = kept-taken (word v) t s z n ds w
 
@@ -242,7 +228,7 @@ module _ (v l : List ℕ) (k z : ℕ) where
               let m = size-taken in
               let g = one-long in
               let o = kept-few (word v) t s z n ds w in
-              file-ready v l h k s marks t (a .state s e) f z′ b d p q es (take n ds) (omega arith) (omega arith) (omega arith) (omega arith)
+              file-ready v l h k s marks t (a .state s e) f z′ d q es (take n ds) (omega arith) (omega arith) (omega arith) (omega arith)
 
           size-is : cameTo v l (setSize k z) ≡ outcome v (plain (resized ∷ []) noWords [])
           unfolding groups action actionGroups sizeAction outcome actionChecks
@@ -257,6 +243,6 @@ module _ (v l : List ℕ) (k z : ℕ) where
               let c = size-count v k s marks t (a .state s e) z n ds w in
               comes-as (cameTo v l (setSize k z)) (outcome v (actionOf d es (take n ds))) l r′ m
               (size-is
-              ∙ file-outcome v l h k s marks t (a .state s e) (z / 512) z b d p (rw (page, same) at q) es (take n ds) (sizeWords z ∷ []) (resized .count)
+              ∙ file-outcome v l h k s marks t (a .state s e) (z / 512) z d (rw (page, same) at q) es (take n ds) (sizeWords z ∷ []) (resized .count)
               (resized .words) (rw (x, size-long u, new) (one-entry (sizeWords z) (size-long z))) (omega arith)
               (λ j k′. taken n ds (resized .words) (size-words v k s marks t (a .state s e) z n ds w) j (omega arith))) g

@@ -1,6 +1,7 @@
 // The calls that change a file's bytes and its size: write and set size. Each takes any bytes and numbers, works from the lent volume v
 // alone and fills a lent store list; a refusal leaves the list as it was.
 ghost use mathlib.Core.Path.{_≡_};
+ghost use mathlib.Core.Bool.{false};
 ghost use Prim.Native.Nat.{_≤_};
 ghost use lib.ListN.{length};
 ghost use Rattle.model.specs.Words.{word};
@@ -10,6 +11,23 @@ ghost use Rattle.answer.specs.Comes.{Fills};
 ghost use Rattle.writing.specs.Kept.{cuts, Kept};
 use answer::Answer;
 use append::Append;
+
+// Answers an append of data to the log of inode k: file pages from page `file` on, of a file that has this size then.
+// Example: to_file(5, 2, 1500) appends to the log of inode 5, with data for file page 2.
+fn to_file(k: usize, file: u64, size: u64) -> Append
+    ensures { λ r. ⌜ r ≡ record { log = k; anew = false; file = file; size = size; second = 0; moved = 0; other = 0; valid = 0 } ⌝ }
+{
+    Append {
+        log: k,
+        anew: false,
+        file,
+        size,
+        second: layout::ROOT,
+        moved: 0,
+        other: 0,
+        valid: 0,
+    }
+}
 
 // Writes bytes to a file from an offset on: fills the list with the store list. Answers Number with the count of words filled, 0 where
 // there are no bytes to write.
@@ -46,7 +64,8 @@ pub fn write(v: &[u8], inode: u64, offset: u64, bytes: &[u8], list: &mut [u64]) 
     let mut data = [0u64; 576];
     fresh::lay_write(v, &table, from, bytes, &mut data);
     let n = layout::PAGE_WORDS * fresh::pages_covered(from, end);
-    let a = Append::to(inode as usize).data(
+    let a = to_file(
+        inode as usize,
         (from / layout::PAGE) as u64,
         layout::larger(size, end as u64),
     );
@@ -114,6 +133,6 @@ pub fn set_size(v: &[u8], inode: u64, size: u64, list: &mut [u64]) -> Answer
     let mut data = [0u64; 64];
     let n = lay_kept(v, &table, old, size, &mut data);
     let e = entries::size_words(size);
-    let a = Append::to(inode as usize).data((size as usize / layout::PAGE) as u64, size);
+    let a = to_file(inode as usize, (size as usize / layout::PAGE) as u64, size);
     append::make(v, &mut marks, a, &e, &data[..n], list)
 }

@@ -1,4 +1,4 @@
--- Head, data and what a new file has, one after the other.
+-- The head, and the data behind it.
 use Rattle.model.proofs.Prelude.{needs}
 use Rattle.append.proofs.Parts.{rest-put}
 use Rattle.append.proofs.put_rest.Statement.{statement}
@@ -10,7 +10,6 @@ put-rest-spec =
     (tie.spec
     (λ c κs. search needs)
     (λ c. search needs)
-    (λ c κs. search needs)
     (λ c κs. search needs)
     (λ c. search needs)
     (λ c. (search (rest-put, needs), search needs)))

@@ -5,11 +5,4 @@ use Rattle.append.proofs.take_pages.Statement.{statement}
 use Rattle.append.proofs.take_pages.Tie as tie
 
 pub take-pages-spec : {M : Type 1} → statement M
-take-pages-spec =
-    tie.close
-    (tie.spec
-    (λ c κs. search needs)
-    (λ c κs. search needs)
-    (λ c κs. search needs)
-    (λ c κs. search needs)
-    (λ c. search (pages-taken, needs)))
+take-pages-spec = tie.close (tie.spec (λ c κs. search needs) (λ c κs. search needs) (λ c. search (pages-taken, needs)))

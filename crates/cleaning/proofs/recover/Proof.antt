@@ -24,9 +24,7 @@ recover-spec =
     (λ c κs. (search close-pairs, omega arith, omega arith))
     (λ c. search needs)
     (λ c.
-    let d = c .before .before in
-    let p = d .before .before .before .before .before .before in
-    let o = p .before .before in
+    let d = c .before .before in let p = d .before .before .before .before .before .before in let o = p .before .before in
     let j = o .before .before .before .before in
     recover-comes _ _ (j .before .before .before .if1 .left) _ _ _ (j .judged .ensures) _ (o .before .before .enum-told .given .1) _
     (o .before .is-open .ensures) (o .if2 .left) _ _ (p .put-back .ensures .0) _ (d .before .before .before .word-at .ensures) _ _

@@ -16,7 +16,5 @@ put-first-spec =
     (λ c κs. search needs)
     (λ c κs. search needs)
     (λ c.
-    let d = c .before .before in
-    let b = d .before .before in
-    let a = b .before .before .before in
+    let d = c .before .before in let b = d .before .before in let a = b .before .before .before in
     search (first-put, a .before .before .put-bytes .ensures, a .put-field .ensures, b .put-bytes2 .ensures, d .put-field2 .ensures, c .put-byte .ensures)))

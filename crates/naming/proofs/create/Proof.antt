@@ -20,33 +20,15 @@ create-spec =
     (λ c κs. search)
     (λ c. search needs)
     (λ c κs.
-    let b1 = c .before .before .before in
-    let o = b1 .add-words .ensures in
-    let b2 = b1 .before .before in
-    let j = b2 .found .given .1 in
-    let b3 = b2 .before .before in
-    let h = b3 .create-checks .ensures in
-    let b4 = b3 .before .before in
-    let w = b4 .word-at .ensures in
-    let b5 = b4 .before .before in
-    let e = b5 .gate .given .1 in
-    let b6 = b5 .before .before in
-    let g = b6 .filling .ensures in
+    let b1 = c .before .before .before in let o = b1 .add-words .ensures in let b2 = b1 .before .before in let j = b2 .found .given .1 in
+    let b3 = b2 .before .before in let h = b3 .create-checks .ensures in let b4 = b3 .before .before in let w = b4 .word-at .ensures in
+    let b5 = b4 .before .before in let e = b5 .gate .given .1 in let b6 = b5 .before .before in let g = b6 .filling .ensures in
     let l = now (b6 .before .before .before .before .before .before .args .list) in
     one-ready _ l _ _ _ g _ e _ _ _ _ o (add-long _ _) (create-below _ l _ _ _ g _ e _ _ w _ h _ j))
     (λ c. search)
     (λ c.
-    let a = c .before .before .append-root .ensures in
-    let b1 = c .before .before .before .before .before .before in
-    let o = b1 .add-words .ensures in
-    let b2 = b1 .before .before in
-    let j = b2 .found .given .1 in
-    let b3 = b2 .before .before in
-    let h = b3 .create-checks .ensures in
-    let b4 = b3 .before .before in
-    let w = b4 .word-at .ensures in
-    let b5 = b4 .before .before in
-    let e = b5 .gate .given .1 in
-    let b6 = b5 .before .before in
-    let g = b6 .filling .ensures in
+    let a = c .before .before .append-root .ensures in let b1 = c .before .before .before .before .before .before in
+    let o = b1 .add-words .ensures in let b2 = b1 .before .before in let j = b2 .found .given .1 in let b3 = b2 .before .before in
+    let h = b3 .create-checks .ensures in let b4 = b3 .before .before in let w = b4 .word-at .ensures in let b5 = b4 .before .before in
+    let e = b5 .gate .given .1 in let b6 = b5 .before .before in let g = b6 .filling .ensures in
     create-comes _ _ _ _ _ g _ e _ _ w _ h _ j _ o _ _ a))

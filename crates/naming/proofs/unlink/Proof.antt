@@ -20,35 +20,18 @@ unlink-spec =
     (λ c κs. search)
     (λ c. search needs)
     (λ c κs.
-    let b1 = c .before .before .before in
-    let o = b1 .remove-words .ensures in
-    let b2 = b1 .before in
-    let z = b2 .released .ensures in
-    let b3 = b2 .before .before .before in
-    let j = b3 .found .given .1 in
-    let b4 = b3 .before .before in
-    let h = b4 .unlink-checks .ensures in
-    let b5 = b4 .before .before .before in
-    let e = b5 .gate .given .1 in
-    let b6 = b5 .before .before in
-    let g = b6 .filling .ensures in
+    let b1 = c .before .before .before in let o = b1 .remove-words .ensures in let b2 = b1 .before in let z = b2 .released .ensures in
+    let b3 = b2 .before .before .before in let j = b3 .found .given .1 in let b4 = b3 .before .before in
+    let h = b4 .unlink-checks .ensures in let b5 = b4 .before .before .before in let e = b5 .gate .given .1 in
+    let b6 = b5 .before .before in let g = b6 .filling .ensures in
     let l = now (b6 .before .before .before .before .before .before .args .list) in
     let low = lost-low _ l _ _ _ g _ e _ _ _ z (unlink-i _ l _ _ _ g _ e _ _ h _ j) in
     let some = some-inodes _ l _ _ _ g _ e in
     one-ready _ l _ _ _ g _ e _ _ _ _ o (remove-long _) (search (low, some)))
     (λ c. search)
     (λ c.
-    let a = c .before .before .append-root .ensures in
-    let b1 = c .before .before .before .before .before .before in
-    let o = b1 .remove-words .ensures in
-    let b2 = b1 .before in
-    let z = b2 .released .ensures in
-    let b3 = b2 .before .before .before in
-    let j = b3 .found .given .1 in
-    let b4 = b3 .before .before in
-    let h = b4 .unlink-checks .ensures in
-    let b5 = b4 .before .before .before in
-    let e = b5 .gate .given .1 in
-    let b6 = b5 .before .before in
-    let g = b6 .filling .ensures in
+    let a = c .before .before .append-root .ensures in let b1 = c .before .before .before .before .before .before in
+    let o = b1 .remove-words .ensures in let b2 = b1 .before in let z = b2 .released .ensures in let b3 = b2 .before .before .before in
+    let j = b3 .found .given .1 in let b4 = b3 .before .before in let h = b4 .unlink-checks .ensures in
+    let b5 = b4 .before .before .before in let e = b5 .gate .given .1 in let b6 = b5 .before .before in let g = b6 .filling .ensures in
     unlink-comes _ _ _ _ _ g _ e _ _ h _ j _ z _ o _ _ a))

@@ -21,22 +21,17 @@ set-size-spec =
     let e = c .before .before .before .before .before .state .given .1 in (state-within _ _ _ _ _ a _ e, state-small _ _ _ _ _ a _ e, refl))
     (λ c κs. search)
     (λ c κs. search)
-    (λ c κs. search)
     (λ c. search needs)
-    (λ c. kept-fits _ _ _ _ _ _ (c .before .before .before .before .before .lay-kept .ensures))
-    (λ c. kept-taken _ _ _ _ _ _ (c .before .before .before .before .before .before .lay-kept .ensures))
+    (λ c. kept-fits _ _ _ _ _ _ (c .before .before .before .before .lay-kept .ensures))
+    (λ c. kept-taken _ _ _ _ _ _ (c .before .before .before .before .before .lay-kept .ensures))
     (λ c κs.
-    let d = c .before .before .before .before in
-    let g = d .before .before .before in
-    let i = g .before .before .before in
+    let d = c .before .before .before .before in let g = d .before .before in let i = g .before .before .before in
     let f = i .before .before .before .before .before in
     size-ready _ _ _ _ (f .before .before .before .if1 .left) _ _ _ (f .file .ensures) _ (i .before .before .before .state .given .1) (i .before .if2 .left) (i .if3 .left)
-    _ _ (g .lay-kept .ensures) _ _ (d .before .before .size-words .ensures) _ _ _ _ (d .before .to .ensures) (d .data2 .ensures))
+    _ _ (g .lay-kept .ensures) _ _ (d .before .size-words .ensures) _ _ _ (d .to-file .ensures))
     (λ c. search)
     (λ c.
-    let d = c .before .before .before .before .before .before .before in
-    let g = d .before .before .before in
-    let i = g .before .before .before in
+    let d = c .before .before .before .before .before .before .before in let g = d .before .before in let i = g .before .before .before in
     let f = i .before .before .before .before .before in
     size-comes _ _ _ _ (f .before .before .before .if1 .left) _ _ _ (f .file .ensures) _ (i .before .before .before .state .given .1) (i .before .if2 .left) (i .if3 .left)
-    _ _ (g .lay-kept .ensures) _ _ (d .before .before .size-words .ensures) _ _ _ _ (d .before .to .ensures) (d .data2 .ensures) refl refl refl _ _ (c .before .before .make .ensures)))
+    _ _ (g .lay-kept .ensures) _ _ (d .before .size-words .ensures) _ _ _ (d .to-file .ensures) refl refl refl _ _ (c .before .before .make .ensures)))

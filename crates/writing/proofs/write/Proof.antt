@@ -26,25 +26,18 @@ write-spec =
     (λ c. search needs)
     (λ c κs. search)
     (λ c κs. search)
-    (λ c κs. search)
     (λ c. search needs)
     (λ c. search needs)
-    (λ c. let g = c .before .before .before .before .before in written-fits _ _ _ _ (g .before .before .before .before .before .before .before .if2 .left) _ (g .pages-covered .ensures) _ (g .before .lay-write .ensures))
-    (λ c. let g = c .before .before .before .before .before .before in written-taken _ _ _ _ (g .before .before .before .before .before .before .before .if2 .left) _ (g .pages-covered .ensures) _ (g .before .lay-write .ensures))
+    (λ c. let g = c .before .before .before .before in written-fits _ _ _ _ (g .before .before .before .before .before .before .before .if2 .left) _ (g .pages-covered .ensures) _ (g .before .lay-write .ensures))
+    (λ c. let g = c .before .before .before .before .before in written-taken _ _ _ _ (g .before .before .before .before .before .before .before .if2 .left) _ (g .pages-covered .ensures) _ (g .before .lay-write .ensures))
     (λ c κs.
-    let d = c .before .before .before .before in
-    let g = d .before .before .before .before in
-    let i = g .before .before .before in
-    let n = i .before .before .before in
-    let f = n .before .before .before .before in
+    let d = c .before .before .before .before in let g = d .before .before .before in let i = g .before .before .before in
+    let n = i .before .before .before in let f = n .before .before .before .before in
     write-ready _ _ _ _ _ (f .before .before .before .if1 .left) _ _ _ (f .file .ensures) _ (n .before .before .state .given .1) (n .if2 .left) (i .before .if4 .left) (i .if5 .left)
-    _ (d .before .before .before .pages-covered .ensures) _ (g .lay-write .ensures) _ _ _ _ (d .before .before .to .ensures) (d .data2 .ensures))
+    _ (d .before .before .pages-covered .ensures) _ (g .lay-write .ensures) _ _ _ (d .to-file .ensures))
     (λ c. search)
     (λ c.
-    let d = c .before .before .before .before .before .before .before in
-    let g = d .before .before .before .before in
-    let i = g .before .before .before in
-    let n = i .before .before .before in
-    let f = n .before .before .before .before in
+    let d = c .before .before .before .before .before .before .before in let g = d .before .before .before in
+    let i = g .before .before .before in let n = i .before .before .before in let f = n .before .before .before .before in
     write-comes _ _ _ _ _ (f .before .before .before .if1 .left) _ _ _ (f .file .ensures) _ (n .before .before .state .given .1) (n .if2 .left) (i .before .if4 .left) (i .if5 .left)
-    _ (d .before .before .before .pages-covered .ensures) _ (g .lay-write .ensures) _ _ _ _ (d .before .before .to .ensures) (d .data2 .ensures) refl (d .before .larger .ensures) _ _ (c .before .before .make .ensures)))
+    _ (d .before .before .pages-covered .ensures) _ (g .lay-write .ensures) _ _ _ (d .to-file .ensures) refl (d .before .larger .ensures) _ _ (c .before .before .make .ensures)))
