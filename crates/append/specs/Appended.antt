@@ -46,7 +46,7 @@ module _ (b : List ℕ) (s : Sizes) (n c : ℕ) where
     pub inside : r .start ≤ s .pages
     pub left : mayTake k s ≡ besides (mayTake b s) dataTaken
 
--- the head h of the log of inode k, which goes on and had no page
+-- the head h of the log of inode k, where the log goes on and its tail t was 0
 unfoldable pub headOf : Bool → ℕ → ℕ → ℕ → Stores
 headOf anew k t h = onlyIf (not anew && eqb t 0) (oneWord (headWord k) h)
 
