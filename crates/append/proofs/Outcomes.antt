@@ -31,10 +31,10 @@ pub all-first : (a : Append) (ws : List ℕ) → a .moved ≡ 0 → firstCount a
 unfolding firstCount
 all-first a ws e = rw (e, sub-zero)
 
-pub one-ready : (v b : List ℕ) (a : Append) (ws ds l : List ℕ) → Closed v b → a .second ≡ 0 → a .moved ≡ 0 → a .log < word v 1
+pub one-log-ready : (v b : List ℕ) (a : Append) (ws ds l : List ℕ) → Closed v b → a .second ≡ 0 → a .moved ≡ 0 → a .log < word v 1
     → isValid (word v) (a .log) ≡ true → a .other < word v 1 → (a .anew ≡ false → 0 < length ws / 8 + length ds / 64) → length ws < 4294967296
     → 64 * (length ds / 64) ≡ length ds → 18 * (length ws / 8 + 1) + 2 * length ds + 44 ≤ length l → Ready v b a ws ds l
-one-ready v b a ws ds l c es em h val o entry few whole room =
+one-log-ready v b a ws ds l c es em h val o entry few whole room =
     let n : 0 < word v 1 = omega arith in
     record {
       volume = c;

@@ -1,4 +1,4 @@
--- The parts of the first group beside the first log, and the words that commit it.
+-- The tail that a log goes on with, the parts of the first group beside the first log, and the words that commit it.
 use Rattle.model.proofs.Prelude.{ℕ, zero, suc, _+_, _*_, _-_, _/_, _≤_, _<_, _≡_, refl, sym, ap, _∙_, Bool, true, false, cond, _&&_, not, List, [], _∷_, _++_, append-nil, arith, add-one, add-zero, zero-add, eqb, length, getD, take, length-append, length-take-le, take-append-seam, eq-eqb, ne-eqb}
 use Rattle.model.specs.Words.{Mem}
 use Rattle.model.specs.Layout.{validWord, headWord, tailWord}
@@ -111,13 +111,13 @@ module _ (l : List ℕ) (at w x : ℕ) (changes : Bool) where
   change-put r m e p = rw e p
 
 -- `to_commit`: h, t, u and o are the words' indices
-pub four-put : (a : Append) (l l₁ l₂ l₃ l₄ : List ℕ) (x y z h t u o r₁ r₂ r₃ r : ℕ) (moves frees : Bool) → h ≡ headWord (a .log) → t ≡ tailWord (a .log)
-    → u ≡ tailWord (a .second) → o ≡ validWord (a .other) → moves ≡ not (eqb (a .moved) 0) → frees ≡ not (eqb (a .other) 0)
+pub four-put : (a : Append) (l l₁ l₂ l₃ l₄ : List ℕ) (x y z h t u o r₁ r₂ r₃ r : ℕ) (second other : Bool) → h ≡ headWord (a .log) → t ≡ tailWord (a .log)
+    → u ≡ tailWord (a .second) → o ≡ validWord (a .other) → second ≡ not (eqb (a .moved) 0) → other ≡ not (eqb (a .other) 0)
     → Emitted l 0 (pairsOf (cond (a .anew) ((h, x) ∷ []) [])) r₁ l₁ → Emitted l₁ r₁ (pairsOf (cond true ((t, y) ∷ []) [])) r₂ l₂
-    → Emitted l₂ r₂ (pairsOf (cond moves ((u, z) ∷ []) [])) r₃ l₃ → Emitted l₃ r₃ (pairsOf (cond frees ((o, a .valid) ∷ []) [])) r l₄
+    → Emitted l₂ r₂ (pairsOf (cond second ((u, z) ∷ []) [])) r₃ l₃ → Emitted l₃ r₃ (pairsOf (cond other ((o, a .valid) ∷ []) [])) r l₄
     → Emitted l 0 (pairsOf (committing a x y z)) r l₄
 unfolding committing alsoCommitted
-four-put a l l₁ l₂ l₃ l₄ x y z h t u o r₁ r₂ r₃ r moves frees eh et eu eo em ef p q v w =
+four-put a l l₁ l₂ l₃ l₄ x y z h t u o r₁ r₂ r₃ r second other eh et eu eo em ef p q v w =
     let k = emitted-both (emitted-both (emitted-both p q) v) w in
     rw (pairs-append, pairs-append, pairs-append, ← eh, ← et, ← eu, ← eo, ← em, ← ef) k
 

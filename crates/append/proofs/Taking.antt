@@ -1,8 +1,8 @@
--- The pages that an append takes: where there are enough, the data's run is the lowest, and the log's pages are the lowest ones left.
+-- The pages that an append takes: where there are enough, the data's run is the lowest, and the logs' pages are the lowest ones left.
 use Rattle.model.proofs.Prelude.{ℕ, zero, suc, _+_, _≤_, _<_, _≡_, refl, sym, ap, _∙_, fun-ext, Bool, true, false, _&&_, and-true, _||_, not, List, [], _∷_, _++_, Option, none, some, arith, zero-add, ltb, length, length-append, eq-eqb, ne-eqb, lt-ltb, le-ltb, ltb-true}
 use Rattle.model.specs.Lists.{allBelow, lowest, lowestFew, has, orElse}
 use Rattle.model.specs.Calls.{besides, lowestRun}
-use Rattle.model.proofs.Tests.{by-bool, by-lt, not-some, and-left}
+use Rattle.model.proofs.Tests.{by-bool, by-lt, not-not, not-some, and-left}
 use Rattle.model.proofs.Lists.{length-values, lowest-is, few-length}
 use Rattle.layout.specs.declared.Sizes.{Sizes}
 use Rattle.space.specs.Space.{RunTaken}
@@ -50,10 +50,6 @@ module _ (b : List ℕ) (s : Sizes) (n c start : ℕ) (k : List ℕ) (enough : B
   run-below : (p : ℕ) → lowestRun (mayTake b s) P c ≡ some p → p < P
   unfolding lowestRun
   run-below p h = omega (arith, lowest-is (λ p. allBelow c (λ i. mayTake b s (p + i))) P 0 p h .below)
-
-  not-not : (x : Bool) → not (not x) ≡ x
-  not-not true = refl
-  not-not false = refl
 
   answer : (o : Option ℕ) → lowestRun (mayTake b s) P c ≡ o → not enough ≡ (ltb (length (dataTaken b s n c)) c || ltb (length (logTaken b s n c)) n)
   unfolding dataTaken

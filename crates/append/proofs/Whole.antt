@@ -75,16 +75,16 @@ write-entry file p (suc c) z h =
 first-entries : (ws : List ℕ) (n : ℕ) → 8 * n ≤ length ws → (length (take (8 * n) ws) / 8 ≡ n) × (entriesOf (take (8 * n) ws) 0 n ≡ entriesOf ws 0 n)
 first-entries ws n h = let e = length-take-le (8 * n) ws h in (omega arith, entries-take ws (8 * n) 0 n (omega arith))
 
-abbrev lastOf : List ℕ → ℕ → List ℕ
-lastOf ws k = take (length ws - k) (drop k ws)
+abbrev movedOf : List ℕ → ℕ → List ℕ
+movedOf ws k = take (length ws - k) (drop k ws)
 
-last-entries : (ws : List ℕ) (n : ℕ) → n ≤ length ws / 8
-    → (length (lastOf ws (8 * (length ws / 8 - n))) / 8 ≡ n)
-    × (entriesOf (lastOf ws (8 * (length ws / 8 - n))) 0 n ≡ entriesOf ws (8 * (length ws / 8 - n)) n)
-last-entries ws n h =
+moved-entries : (ws : List ℕ) (n : ℕ) → n ≤ length ws / 8
+    → (length (movedOf ws (8 * (length ws / 8 - n))) / 8 ≡ n)
+    × (entriesOf (movedOf ws (8 * (length ws / 8 - n))) 0 n ≡ entriesOf ws (8 * (length ws / 8 - n)) n)
+moved-entries ws n h =
     let k = 8 * (length ws / 8 - n) in
     let e = length-drop k ws in
-    let a : lastOf ws k ≡ drop k ws = take-all (length ws - k) (drop k ws) (omega arith) in
+    let a : movedOf ws k ≡ drop k ws = take-all (length ws - k) (drop k ws) (omega arith) in
     rw a (omega arith, entries-drop ws k 0 n ∙ ap (λ j. entriesOf ws j n) (add-zero k))
 
 writes-long : (file p c z : ℕ) → length (take (8 * writes c) (writeWords file p c z)) / 8 ≡ writes c
@@ -305,7 +305,7 @@ module _ (v b : List ℕ) (a : Append) (ws ds l : List ℕ) (y : Ready v b a ws 
       rw (second-lacks f₂, fresh-need p e, fresh-log p e)
       (or-both (ltb (length (dataPages u P f A)) c) _ _ ∙ sym (x .answer ∙ rw (data-is, log-is, few-both may P q₁ q₂)))
 
-  pub lacks : lacksRoom u P f (A ∷ S) ≡ not (r .enough)
+  lacks : lacksRoom u P f (A ∷ S) ≡ not (r .enough)
   unfolding lacksRoom
   lacks = no-room (lowestRun f P c) refl
 
@@ -355,7 +355,7 @@ module _ (v b : List ℕ) (a : Append) (ws ds l : List ℕ) (y : Ready v b a ws 
         at-layable v b k s (y .volume) ep may-free (a .anew) (a .log) (y .log) (y .valid) g₀ et m
         (rw (seeks (neededAt t m), ← e₁) enough-first)
 
-    pub start-inside : 64 * r .start + length ds ≤ 64 * P
+    start-inside : 64 * r .start + length ds ≤ 64 * P
     unfolding lowestRun
     start-inside =
         let w = y .whole in
@@ -394,8 +394,8 @@ module _ (v b : List ℕ) (a : Append) (ws ds l : List ℕ) (y : Ready v b a ws 
         let i = y .some-entry o in
         by-eq c 0 (λ d. absurd (omega arith)) (λ d. let w : writes c ≡ 1 = rw (ne-eqb c 0 d) in absurd (omega arith)))
 
-    -- i is how far it is laid, m₁ the list then and e the end of the group with what belongs to it: there the second log is laid
-    module _ (i : Laid) (m₁ : List ℕ) (left : (j : ℕ) → freshFrom k s i j ≡ lowestFew f₂ P 0 j) (e : ℕ) where
+    -- i is how far it is laid, and e the end of the group with what belongs to it: there the second log is laid
+    module _ (i : Laid) (left : (j : ℕ) → freshFrom k s i j ≡ lowestFew f₂ P 0 j) (e : ℕ) where
       abbrev g₁ : Laid
       g₁ = startAt e t₂ (i .from)
 
@@ -431,12 +431,12 @@ module _ (v b : List ℕ) (a : Append) (ws ds l : List ℕ) (y : Ready v b a ws 
     w₁ = take (8 * n) ws
 
     abbrev w₃ : List ℕ
-    w₃ = lastOf ws (8 * n)
+    w₃ = movedOf ws (8 * n)
 
     split : (length w₁ / 8 ≡ n) × (entriesOf w₁ 0 n ≡ entriesOf ws 0 n) × (length w₃ / 8 ≡ a .moved) × (entriesOf w₃ 0 (a .moved) ≡ entriesOf ws (8 * n) (a .moved))
     split =
         let o = first-entries ws n (omega arith) in
-        let q = last-entries ws (a .moved) (y .moved) in
+        let q = moved-entries ws (a .moved) (y .moved) in
         (o .0, o .1, q .0, q .1)
 
     module _ (i₀ p₀ c₀ z₀ : ℕ) (xs₀ : List ℕ) (e₀ : xs₀ ≡ writeWords i₀ p₀ c₀ z₀) where
@@ -451,7 +451,7 @@ module _ (v b : List ℕ) (a : Append) (ws ds l : List ℕ) (y : Ready v b a ws 
 
       -- i is how far the first log is laid, and m₁ the list then
       module _ (i : Laid) (m₁ : List ℕ) (d : LogLaid k s l g₀ w₁ xs i m₁) where
-        pub left : (j : ℕ) → freshFrom k s i j ≡ lowestFew f₂ P 0 j
+        left : (j : ℕ) → freshFrom k s i j ≡ lowestFew f₂ P 0 j
         unfolding asked
         left = log-left u P f A k s g₀ m et refl long₁ seeks (first-layable .enough) i (rw count-is at (d .left))
 
@@ -473,7 +473,7 @@ module _ (v b : List ℕ) (a : Append) (ws ds l : List ℕ) (y : Ready v b a ws 
               let o = split .2 in (
                 omega (arith, few .0),
                 omega (arith, few .1, y .second),
-                rw o (second-layable i m₁ left e),
+                rw o (second-layable i left e),
                 omega (arith, count-is, few-more, y .room, y .moved, d .end, d .stores .long),
               )
 
@@ -534,7 +534,8 @@ module _ (v b : List ℕ) (a : Append) (ws ds l : List ℕ) (y : Ready v b a ws 
         only-if _ (λ e. only-both (at-low v b k s (y .volume) ep may-free false (a .second) (y .second) (y .second-valid) g (eg ∙ et₂) es)
         (only-if _ (λ e. only-word M (headWord (a .second)) _ (omega arith))))
 
-    -- `make`: i and h are how far the logs were laid, e₁ and e₂ the ends of the first group, and z the end of the list
+    -- `make`: i and h are how far the logs were laid, e is the end of the group with what belongs to the first log and e₃ its end in all, zs of
+    -- the words cs commit it, and z is the end of the list
     pub fills : (i h : Laid) (e e₃ z zs : ℕ) (xs₀ c₀ cs m₁ m₂ m₃ m₄ m₅ : List ℕ) → xs₀ ≡ writeWords (a .file) (r .start) c (a .size)
         → LogLaid k s l g₀ w₁ (take (8 * more) xs₀) i m₁ → Added m₁ 0 (i .end) (restOf a t (i .head) (r .start) ds) e m₂
         → SecondLaid k s m₂ (startAt e t₂ (i .from)) (a .second) w₃ h m₃ → Added m₃ 0 (h .end) (zeroed a) e₃ m₄
@@ -557,9 +558,9 @@ module _ (v b : List ℕ) (a : Append) (ws ds l : List ℕ) (y : Ready v b a ws 
         let head-is : i .head ≡ headBehind k s g₀ m = x₁ .head ∙ ap (headBehind k s g₀) n₁ in
         let tail-is : i .tail ≡ tailBehind k s g₀ m = x₁ .tail ∙ ap (tailBehind k s g₀) n₁ in
         let tail₂-is : h .tail ≡ tailBehind k s g₁ (a .moved) = x₃ .tail ∙ ap (tailBehind k s g₁) (o .2) in
-        let stores : both (allPrepared u P f (A ∷ S)) (zeroed a) ≡ G = rw (first-stores, second-stores i m₁ i-left e, head-is) in
+        let stores : both (allPrepared u P f (A ∷ S)) (zeroed a) ≡ G = rw (first-stores, second-stores i i-left e, head-is) in
         let changes : allChanges u P f (A ∷ S) ++ alsoCommitted a ≡ committing a (i .head) (i .tail) (h .tail)
-        = rw (log-changes u P f A k s g₀ m et refl long₁ seeks some-first, second-changes i m₁ i-left e, head-is, tail-is, tail₂-is) in
+        = rw (log-changes u P f A k s g₀ m et refl long₁ seeks some-first, second-changes i i-left e, head-is, tail-is, tail₂-is) in
         let list = rw W at (x₆ .list l G (rw W group)) in
         let gs : storeList (64 * P) (commit u G (changesOf (take zs cs)))
         ≡ storeList (64 * P) (commit u (both (allPrepared u P f (A ∷ S)) (zeroed a)) (allChanges u P f (A ∷ S) ++ alsoCommitted a))

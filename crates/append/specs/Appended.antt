@@ -80,11 +80,11 @@ pairsOf (c ∷ cs) = c .0 ∷ c .1 ∷ pairsOf cs
 unfoldable pub alsoCommitted : Append → List Change
 alsoCommitted a = cond (not (eqb (a .other) 0)) ((validWord (a .other), a .valid) ∷ []) []
 
--- all words that are committed: the first log's head h, if it is written anew, and its tail t; the second log's tail; the valid word
+-- all words that are committed: the first log's head h, if it is written anew, and its tail t; the second log's tail t₂; the valid word
 unfoldable pub committing : Append → ℕ → ℕ → ℕ → List Change
-committing a h t second =
+committing a h t t₂ =
     cond (a .anew) ((headWord (a .log), h) ∷ []) [] ++ ((tailWord (a .log), t) ∷ [])
-    ++ cond (not (eqb (a .moved) 0)) ((tailWord (a .second), second) ∷ []) []
+    ++ cond (not (eqb (a .moved) 0)) ((tailWord (a .second), t₂) ∷ []) []
     ++ alsoCommitted a
 
 -- how many of the entries of ws go to the first log
@@ -123,8 +123,8 @@ outcome v x =
     firstRefusal (actionChecks (word v) (word v 0) (word v 1) x)
     (done (storeList (64 * word v 0) (actionGroups (word v) (word v 0) (word v 1) x)))
 
--- An append can be made: its inodes are there, its first log gets an entry or is written anew, its data are whole pages, and the list has
--- room.
+-- An append can be made: its inodes are below the inode count and those of both logs valid, the second one's also where nothing is moved;
+-- its first log gets an entry or is written anew, its data are whole pages, and the list has room.
 pub record Ready (v b : List ℕ) (a : Append) (ws ds l : List ℕ) : Type 0 where
   pub volume : Closed v b
   pub log : a .log < word v 1

@@ -1,7 +1,7 @@
 // One append, whole: it takes the pages, fills the first group and commits, or answers that there are not enough pages. v is the volume,
 // which is accepted and whose journal is closed; marks has a byte for each page, 0 where the page is not in use.
 ghost use mathlib.Core.Path.{_≡_};
-ghost use mathlib.Core.Bool.{true, false, _&&_, not, cond};
+ghost use mathlib.Core.Bool.{_&&_, not, cond};
 ghost use mathlib.Core.List.{[], _∷_};
 ghost use Prim.Native.Nat.{_+_, _*_, _/_, _≤_, _<_, _^_};
 ghost use lib.Dec.{ltb};
@@ -20,9 +20,9 @@ use laying::Laid;
 use layout::Sizes;
 
 // What is appended to the log of inode `log`, or is the whole of it where the log is written `anew`. Entries and data are given beside
-// it; the last `moved` entries go to the log of inode `second` instead, which goes on. The data are file pages from page `file` on, of a
-// file that has `size` bytes then. Together with the tails the valid word of inode `other`, if that is not 0, becomes `valid`: 1 makes a
-// file that is empty, 0 lets it go.
+// it; the last `moved` entries go to the log of inode `second` instead, which goes on: a valid inode, also where none are moved. The data
+// are file pages from page `file` on, of a file that has `size` bytes then. Together with the tails the valid word of inode `other`, if
+// that is not 0, becomes `valid`: 1 makes a file that is empty, 0 lets it go.
 pub struct Append {
     pub log: usize,
     pub anew: bool,
@@ -108,7 +108,7 @@ fn put_head(list: &mut [u64], g: Laid, anew: bool, k: usize, tail: usize) -> usi
 
 // Puts the rest of an append to its first log, which is laid as far as g, into the first group: the head, and the data from page start
 // on. Answers the index behind the group.
-// Example: of an append without data to a log that goes on it puts nothing.
+// Example: of an append without data to a log that goes on and has a page it puts nothing.
 fn put_rest(list: &mut [u64], g: Laid, a: Append, tail: usize, start: usize, data: &[u64]) -> usize
     requires { ⌜ (a .log < 2 ^ 32) × (64 * start + length (now «data») ≤ 262144)
         × (g .end + 2 * length (now «data») + 2 ≤ length (now list)) ⌝ }
@@ -150,7 +150,7 @@ fn lay_second(
     }
 }
 
-// Puts head and tail of a new file, zeros, into the first group, which ends at end.
+// Puts head and tail of a new file, zeros, into the first group, which ends at end. Answers the index behind the group.
 // Example: where inode 1 becomes valid it puts 73, 0 and 74, 0.
 fn put_new(list: &mut [u64], end: usize, a: Append) -> usize
     requires { ⌜ (a .other < 2 ^ 32) × (end + 4 ≤ length (now list)) ⌝ }
@@ -182,17 +182,23 @@ fn put_change(words: &mut [u64], at: usize, changes: bool, w: usize, x: u64) -> 
 // Puts the words that commit an append, as pairs of index and value, where its first log is laid as far as g and its second one has this
 // tail. Answers the index behind them.
 // Example: of an append to the log of inode 1 with tail 1,216 they are 74, 1216.
-fn to_commit(words: &mut [u64], a: Append, g: Laid, second: usize) -> usize
+fn to_commit(words: &mut [u64], a: Append, g: Laid, second_tail: usize) -> usize
     requires { ⌜ (a .log < 2 ^ 32) × (a .second < 2 ^ 32) × (a .other < 2 ^ 32) × (8 ≤ length (now «words»)) ⌝ }
-    ensures { λ r. ⌜ Emitted (now («words» .entry)) 0 (pairsOf (committing a (g .head) (g .tail) second)) r (now («words» .exit))
+    ensures { λ r. ⌜ Emitted (now («words» .entry)) 0 (pairsOf (committing a (g .head) (g .tail) «second_tail»)) r (now («words» .exit))
         × (r ≤ 8) ⌝ }
 {
-    let moves = a.moved != 0;
-    let frees = a.other != 0;
+    let has_second = a.moved != 0;
+    let has_other = a.other != 0;
     let b = put_change(words, 0, a.anew, layout::head_word(a.log), g.head as u64);
     let c = put_change(words, b, true, layout::tail_word(a.log), g.tail as u64);
-    let d = put_change(words, c, moves, layout::tail_word(a.second), second as u64);
-    put_change(words, d, frees, layout::valid_word(a.other), a.valid)
+    let d = put_change(
+        words,
+        c,
+        has_second,
+        layout::tail_word(a.second),
+        second_tail as u64,
+    );
+    put_change(words, d, has_other, layout::valid_word(a.other), a.valid)
 }
 
 // Makes an append: takes its pages, fills the list with the first group and what commits it, and answers Number with the count of words
@@ -213,36 +219,36 @@ pub fn make(
 {
     let sizes = Sizes::of(v);
     let tail = old_tail(v, a.anew, a.log);
-    let tail2 = old_tail(v, false, a.second);
+    let second_tail = old_tail(v, false, a.second);
     let n = entries.len() / layout::ENTRY_WORDS - a.moved;
     let count = data.len() / layout::PAGE_WORDS;
     let more = write_entries(count);
     let needed = laying::pages_needed(tail, n + more);
-    let needed2 = laying::pages_needed(tail2, a.moved);
-    let room = take_pages(marks, sizes, needed + needed2, count);
+    let second_needed = laying::pages_needed(second_tail, a.moved);
+    let room = take_pages(marks, sizes, needed + second_needed, count);
     if !room.enough {
         return Answer::NoSpace;
     }
     let start = room.start;
     let e = entries::write_words(a.file, start as u64, count as u64, a.size);
     let m = layout::ENTRY_WORDS * more;
-    let k = layout::ENTRY_WORDS * n;
-    let none = Laid {
+    let split = layout::ENTRY_WORDS * n;
+    let begin = Laid {
         end: 0,
         head: 0,
         tail,
         from: 0,
     };
-    let g = laying::lay_log(list, marks, sizes, none, &entries[..k], &e[..m]);
+    let g = laying::lay_log(list, marks, sizes, begin, &entries[..split], &e[..m]);
     let behind = Laid {
         end: put_rest(list, g, a, tail, start, data),
         head: 0,
-        tail: tail2,
+        tail: second_tail,
         from: g.from,
     };
-    let h = lay_second(list, marks, sizes, behind, a.second, &entries[k..]);
+    let h = lay_second(list, marks, sizes, behind, a.second, &entries[split..]);
     let end = put_new(list, h.end, a);
     let mut words = [0u64; 8];
-    let last = to_commit(&mut words, a, g, h.tail);
-    Answer::Number(commit::commit(v, list, end, &words[..last]) as u64)
+    let filled = to_commit(&mut words, a, g, h.tail);
+    Answer::Number(commit::commit(v, list, end, &words[..filled]) as u64)
 }

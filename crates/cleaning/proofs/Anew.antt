@@ -26,7 +26,7 @@ use Rattle.answer.proofs.Coming.{comes-refused, comes-none, comes-as}
 use Rattle.append.specs.declared.Append.{Append}
 use Rattle.append.specs.Appended.{plain, actionOf, outcome, Ready as AppendReady}
 use Rattle.append.proofs.Volumes.{closed-bytes, closed-sizes, closed-fine}
-use Rattle.append.proofs.Outcomes.{one-ready, one-log, asked-only, zeroed-none, also-nothing}
+use Rattle.append.proofs.Outcomes.{one-log-ready, one-log, asked-only, zeroed-none, also-nothing}
 use Rattle.gate.specs.Gated.{fillChecks, Gated}
 use Rattle.gate.proofs.Gates.{gate-long, gate-ready, gate-readable}
 use Rattle.gate.proofs.Lists.{fill-refused, fill-behind, fill-long, fill-closed, fill-view}
@@ -37,13 +37,13 @@ pub slice-long : (ws₀ ws : List ℕ) (r : ℕ) (es : List (List ℕ)) → Hold
 slice-long ws₀ ws r es h e f = sym (length-take-le (8 * r) ws (omega (arith, h .long)))
 
 -- the append that writes the log of inode k anew, and what it comes to
-abbrev anewOf : ℕ → Append
-anewOf k = record { log = k; anew = true; file = 0; size = 0; second = 0; moved = 0; other = 0; valid = 0 }
+abbrev anewAppend : ℕ → Append
+anewAppend k = record { log = k; anew = true; file = 0; size = 0; second = 0; moved = 0; other = 0; valid = 0 }
 
 anew-outcome : (v : List ℕ) (k : ℕ) (ws : List ℕ) (es : List (List ℕ)) → entriesOf ws 0 (length ws / 8) ≡ es
-    → outcome v (actionOf (anewOf k) ws []) ≡ outcome v (plain (entriesOnly true k es ∷ []) noWords [])
+    → outcome v (actionOf (anewAppend k) ws []) ≡ outcome v (plain (entriesOnly true k es ∷ []) noWords [])
 anew-outcome v k ws es p =
-    rw (one-log (anewOf k) ws [] refl, asked-only (anewOf k) ws refl refl refl, p, zeroed-none (anewOf k) refl, also-nothing (anewOf k) refl)
+    rw (one-log (anewAppend k) ws [] refl, asked-only (anewAppend k) ws refl refl refl, p, zeroed-none (anewAppend k) refl, also-nothing (anewAppend k) refl)
 
 -- `clean_entries`
 module _ (v : List ℕ) (n : ℕ) (places : List ℕ) (k : ℕ) (c : Cleanable v n places k) where
@@ -145,11 +145,11 @@ module _ (v l : List ℕ) (n : ℕ) (places marks : List ℕ) (g : Gated v root 
           }
 
       -- the append o of the first words of the table ws
-      pub anew-ready : (o : Append) → o ≡ anewOf k → (ws : List ℕ) (r : ℕ) → r ≤ 224 → AppendReady v marks o (take (8 * r) ws) [] l
+      pub anew-ready : (o : Append) → o ≡ anewAppend k → (ws : List ℕ) (r : ℕ) → r ≤ 224 → AppendReady v marks o (take (8 * r) ws) [] l
       anew-ready o f ws r few =
           let s = length-take (8 * r) ws in
           let t = fill-long v l (Number n) places marks g n refl in
-          rw f (one-ready v marks (anewOf k) (take (8 * r) ws) [] l closed-here refl refl is-below is-valid (omega (arith, is-below))
+          rw f (one-log-ready v marks (anewAppend k) (take (8 * r) ws) [] l closed-here refl refl is-below is-valid (omega (arith, is-below))
           (λ e. absurd (let j : _≡_ {A = ℕ} 0 1 = cc in omega arith)) (omega arith) refl (omega arith))
 
       -- x is the tail, read from word w
@@ -163,7 +163,7 @@ module _ (v l : List ℕ) (n : ℕ) (places marks : List ℕ) (g : Gated v root 
 
         -- the first r entries of the table ws are those of the clean log
         module _ (z : x ≡ 0 → ⊥) (ws₀ ws : List ℕ) (r : ℕ) (h : Holds ws₀ ws r (cleanEntries (view m) (m 0) (m 1) k)) (few : r ≤ 224) (long : length ws₀ ≡ 1792)
-            (o : Append) (f : o ≡ anewOf k) where
+            (o : Append) (f : o ≡ anewAppend k) where
           table-entries : entriesOf (take (8 * r) ws) 0 (length (take (8 * r) ws) / 8) ≡ cleanEntries m (m 0) (m 1) k
           table-entries =
               let e : length (take (8 * r) ws) / 8 ≡ r = omega (arith, slice-long ws₀ ws r _ h long few) in

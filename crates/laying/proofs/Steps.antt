@@ -48,7 +48,7 @@ module _ (t n p : ℕ) (e : p ≡ (t % 512 / 64 + n + 6) / 7) where
   needed-zero z q = sym (needed-one t n z ∙ (omega arith))
 
 -- the lowest few, where there are more
-pub few-less : (f : ℕ → Bool) (t s a b : ℕ) → length (lowestFew f t s a) ≡ a → b ≤ a → length (lowestFew f t s b) ≡ b
+few-less : (f : ℕ → Bool) (t s a b : ℕ) → length (lowestFew f t s a) ≡ a → b ≤ a → length (lowestFew f t s b) ≡ b
 unfolding lowestFew
 few-less f zero s a b h l = omega arith
 few-less f (suc t) s a zero h l = refl
@@ -68,7 +68,7 @@ module _ (b : List ℕ) (s : Sizes) where
   abbrev few : Laid → ℕ → List ℕ
   few = freshFrom b s
 
-  pub may-bounds : (p : ℕ) → f p ≡ true → (0 < p) × (p < P)
+  may-bounds : (p : ℕ) → f p ≡ true → (0 < p) × (p < P)
   unfolding unmarked
   may-bounds p e = let h = in-bounds P (s .inodes) p (and-left _ _ e) in (omega arith, h .1)
 
@@ -94,10 +94,10 @@ module _ (b : List ℕ) (s : Sizes) where
   tail-some g n h = rw (ne-eqb n 0 (omega arith))
 
   -- Nothing is laid yet.
-  pub laying-all : (l : List ℕ) (g : Laid) (es : List (List ℕ)) → Layable b s g (length es) → Laying b s l g es l g es
+  laying-all : (l : List ℕ) (g : Laid) (es : List (List ℕ)) → Layable b s g (length es) → Laying b s l g es l g es
   laying-all l g es y = record { layable = y; stores = adding-all l 0 (g .end) (toLay b s g es); tail = refl; head = refl; left = λ k. refl }
 
-  pub laying-then : {l m o : List ℕ} {g h k : Laid} {es fs ds : List (List ℕ)} → Laying b s l g es m h fs → Laying b s m h fs o k ds → Laying b s l g es o k ds
+  laying-then : {l m o : List ℕ} {g h k : Laid} {es fs ds : List (List ℕ)} → Laying b s l g es m h fs → Laying b s m h fs o k ds → Laying b s l g es o k ds
   laying-then x y =
       record {
         layable = y .layable;
@@ -253,7 +253,7 @@ module _ (b : List ℕ) (s : Sizes) where
       same-need : neededAt (g .tail + 64) n ≡ neededAt (g .tail) (suc n)
       same-need = needed-one (g .tail + 64) n (omega arith) ∙ (rw (needed-one (g .tail) (suc n) there) (omega arith))
 
-      pub on-layable : Layable b s (on z) n
+      on-layable : Layable b s (on z) n
       on-layable =
           record {
             slot = omega arith;
@@ -295,7 +295,7 @@ module _ (b : List ℕ) (s : Sizes) where
           let w : g .tail / 8 ≡ 64 * (g .tail / 512) + 8 * slotsAt (g .tail) = omega (arith, y .whole) in
           rw (behind-some g (suc n) there, behind-on n z y, slots-on n z y, w) (lay-slot (g .tail / 512) _ (slotsAt (g .tail)) e es (omega arith))
 
-      pub laying-on : (l m : List ℕ) → Added l 0 (g .end) (run (g .tail / 8) 8 (λ j. getD e j 0)) z m → Laying b s l g (e ∷ es) m (on z) es
+      laying-on : (l m : List ℕ) → Added l 0 (g .end) (run (g .tail / 8) 8 (λ j. getD e j 0)) z m → Laying b s l g (e ∷ es) m (on z) es
       laying-on l m a =
           record {
             layable = on-layable (length es) z y;
@@ -408,8 +408,8 @@ module _ (b : List ℕ) (s : Sizes) where
 
   -- g is where the log is laid, and h how far it is behind the table's entries
   module _ (l m ws xs : List ℕ) (g h : Laid) (x : Lays b s l g ws h m) (y : Layable b s g (length ws / 8 + length xs / 8)) where
-    pub second-layable : Layable b s h (length xs / 8)
-    second-layable = rw length-entries at (x .laying (entriesOf xs 0 (length xs / 8)) (rw length-entries y) .layable)
+    pub last-layable : Layable b s h (length xs / 8)
+    last-layable = rw length-entries at (x .laying (entriesOf xs 0 (length xs / 8)) (rw length-entries y) .layable)
 
     pub log-laid : (r : Laid) (o : List ℕ) → Lays b s m h xs r o → LogLaid b s l g ws xs r o
     unfolding tailBehind headBehind leftBehind
@@ -417,7 +417,7 @@ module _ (b : List ℕ) (s : Sizes) where
         let fs = entriesOf xs 0 (length xs / 8) in
         let p = x .laying fs (rw length-entries y) in
         let n : length xs / 8 + 0 ≡ length xs / 8 = omega arith in
-        let q : Laying b s m h fs o r [] = rw append-nil at (z .laying [] (rw n second-layable)) in
+        let q : Laying b s m h fs o r [] = rw append-nil at (z .laying [] (rw n last-layable)) in
         let k = laying-then b s p q in
         let c : length (entriesOf ws 0 (length ws / 8) ++ fs) ≡ length ws / 8 + length xs / 8 = rw (length-append, length-entries, length-entries) in
         record {

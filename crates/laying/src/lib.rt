@@ -44,8 +44,8 @@ pub struct Laid {
     pub from: usize,
 }
 
-// Takes a fresh page where the tail's page has no room for an entry, with a link to it in the page left behind. Answers how far the log
-// is laid then.
+// Takes a fresh page where the tail's page has no room for an entry, with a link to it in the page left behind, or where the log has no
+// page: that one is its head. Answers how far the log is laid then.
 // Example: with tail 1,472, behind the last entry of page 2, and page 5 the lowest free one, it puts 184, 5, and the tail is 2,560.
 fn turn_page(list: &mut [u64], marks: &[u8; 4096], sizes: Sizes, g: Laid) -> Laid
     requires { ⌜ (sizes .pages ≤ 4096) × Layable (now marks) sizes g 1 × (g .end + 2 ≤ length (now list)) ⌝ }
@@ -109,7 +109,7 @@ fn lay_entries(list: &mut [u64], marks: &[u8; 4096], sizes: Sizes, g: Laid, entr
     h
 }
 
-// Lays entries behind the tail, those of the table first and then the last ones. Answers how far the log is laid then.
+// Lays entries behind the tail, those of `entries` first and then those of `last`. Answers how far the log is laid then.
 // Example: with tail 1,216, one entry and no last one it puts the words 152 to 159, and the tail is 1,280.
 pub fn lay_log(
     list: &mut [u64],

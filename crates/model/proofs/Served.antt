@@ -15,7 +15,7 @@ use Rattle.model.specs.Calls.{besides, lowestRun, runFrom, pagesFor, tai
 use Rattle.model.specs.Public.{isVolume, isAccepted, volumeChecks, needsClosed, callChecks, fills, callAnswer}
 use Rattle.model.specs.Claim.{mapIn}
 use Rattle.model.specs.Promises.{isServed, every, named, freePages, hasRun, hasSlots, hasSpace, copied, pagesAnew, CallsServed}
-use Rattle.model.proofs.Tests.{by-bool, by-eq, by-lt, ands, no, not-some, bit-le}
+use Rattle.model.proofs.Tests.{by-bool, by-eq, by-lt, ands, no, not-some, bit-le, not-not}
 use Rattle.model.proofs.Lists.{length-values, values-at, values-in, values-distinct, lowest-is, allBelow-at, all-has}
 use Rattle.model.proofs.Counting.{few-lacks, besides-count}
 use Rattle.model.proofs.Crash.Journal.{closed-view}
@@ -36,10 +36,6 @@ passing (t ∷ ts) = not (t .0) ∷ passing ts
 served-is : {A B : Type 0} (f : A → B) (ts : Checks) (x : A) → isServed (mapAnswer f (firstRefusal ts (done x))) ≡ every (passing ts)
 served-is f [] x = refl
 served-is f (t ∷ ts) x = by-bool (t .0) (λ e. rw e) (λ e. rw e (served-is f ts x))
-
-not-not : (b : Bool) → not (not b) ≡ b
-not-not true = refl
-not-not false = refl
 
 not-leb : (a b : ℕ) → not (leb a b) ≡ ltb b a
 not-leb a b = by-lt b a (λ h. rw (lt-ltb b a h, lt-leb a b h)) (λ h. rw (le-ltb b a h, le-leb a b h))

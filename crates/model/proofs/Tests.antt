@@ -1,5 +1,5 @@
 -- Laws of tests: case splits by a Boolean, and the parts of a test that is made of others. Each is a split on the tests' values.
-use Rattle.model.proofs.Prelude.{_≡_, refl, sym, _∙_, ℕ, _≤_, _<_, Bool, true, false, cond, _&&_, _||_, _⊎_, inl, inr, Option, none, some, arith, leb, ltb, eqb, eqb-true, eqb-false, ltb-true, ltb-false, lt-ltb, le-ltb, le-leb, lt-leb, eq-eqb, ne-eqb}
+use Rattle.model.proofs.Prelude.{_≡_, refl, sym, _∙_, ℕ, _≤_, _<_, Bool, true, false, cond, _&&_, not, _||_, _⊎_, inl, inr, Option, none, some, arith, leb, ltb, eqb, eqb-true, eqb-false, ltb-true, ltb-false, lt-ltb, le-ltb, le-leb, lt-leb, eq-eqb, ne-eqb}
 use Rattle.model.specs.Lists.{bit, isSome}
 
 module _ {X : Type 0} where
@@ -93,6 +93,10 @@ bit-same a b e = rw (eq-eqb a b e)
 pub bit-other : (a b : ℕ) → (a ≡ b → ⊥) → bit (eqb a b) ≡ 0
 unfolding bit
 bit-other a b e = rw (ne-eqb a b e)
+
+pub not-not : (b : Bool) → not (not b) ≡ b
+not-not true = refl
+not-not false = refl
 
 -- what may be missing
 module _ {A : Type 0} where

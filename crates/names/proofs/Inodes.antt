@@ -71,7 +71,7 @@ module _ (m : Mem) (t : List ℕ) (i n : ℕ) (l : n ≤ 0) where
   unfolding marked
   mark-end x z a = rw (inodes-end m t i n l) at a
 
--- Whether a valid file is marked; f is what `valid_inode` answered.
+-- Whether a valid file is marked; f is what `is_valid` answered.
 
 module _ (u : Mem) (l : List ℕ) (k : ℕ) where
   pub file-root : k ≡ 0 → true ≡ markedFile u l k

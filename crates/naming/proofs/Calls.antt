@@ -31,7 +31,7 @@ use Rattle.answer.proofs.Coming.{comes-none, comes-as}
 use Rattle.append.specs.declared.Append.{Append}
 use Rattle.append.specs.Appended.{zeroed, alsoCommitted, plain, actionOf, outcome, Ready}
 use Rattle.append.proofs.Volumes.{closed-sizes, closed-fine}
-use Rattle.append.proofs.Outcomes.{one-ready as one-log-ready, one-log, asked-only, zeroed-new, zeroed-none, also-new, also-nothing}
+use Rattle.append.proofs.Outcomes.{one-log-ready, one-log, asked-only, zeroed-new, zeroed-none, also-new, also-nothing}
 use Rattle.gate.specs.Gated.{rootNames, fillChecks, Gated}
 use Rattle.gate.proofs.Gates.{same-number}
 use Rattle.gate.proofs.Lists.{fill-refused, fill-long, fill-closed, fill-view}
@@ -102,9 +102,6 @@ module _ (v l : List ℕ) (r : Answer) (places marks : List ℕ) (g : Gated v ro
 
   abbrev found : Names
   found = standing m (take n places)
-
-  came : done (some n) ≡ numbered (firstRefusal (fillChecks (length v) m (length l)) (done (length (rootNames v))))
-  came = rw e at (g .answer)
 
   list-long : 4096 ≤ length l
   list-long = fill-long v l r places marks g n e

@@ -12,8 +12,8 @@ ghost use Rattle.naming.specs.Root.{rootAppend, lastNamed};
 use answer::Answer;
 use append::Append;
 
-// Appends entries, eight words each, to the directory's log; together with its tail the valid word of inode other, if that is not 0,
-// becomes valid. Answers Number with the count of words filled, or NoSpace.
+// Appends entries, eight words each, to the directory's log; together with its tail the valid word of inode `other`, if that is not 0,
+// becomes `valid`. Answers Number with the count of words filled, or NoSpace.
 // Example: where the directory's tail page has room for an entry, one entry fills 22 words, and 40 where inode 1 is let go.
 fn append_root(
     v: &[u8],
@@ -86,7 +86,8 @@ pub fn link(v: &[u8], old: &[u8], new: &[u8], list: &mut [u64]) -> Answer
 }
 
 // Answers the inode, if exactly one of the names at the first count places leads to it; else 0.
-// Example: where "A1" alone leads to inode 1, released(v, places, 1, 1) is 1; where "A2" does too, it is 0, and so is that of inode 0.
+// Example: where "A1" alone leads to inode 1, released(v, places, 1, 1) is 1; where "A2" does too,
+// released(v, places, 2, 1) is 0, and so is that of inode 0.
 fn released(v: &[u8], places: &[u16; 224], count: usize, inode: u64) -> u64
     requires { ⌜ Filled (word (now v)) (length (now v)) count (now places) ⌝ }
     ensures { λ r. ⌜ r ≡ lastNamed (standing (word (now (v .entry))) (take count (now (places .entry)))) inode ⌝ }

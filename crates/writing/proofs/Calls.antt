@@ -26,7 +26,7 @@ use Rattle.answer.proofs.Codes.{NoNumber}
 use Rattle.answer.proofs.Coming.{comes-refused, comes-none, comes-as}
 use Rattle.append.specs.declared.Append.{Append}
 use Rattle.append.specs.Appended.{asked, plain, actionOf, outcome, Ready}
-use Rattle.append.proofs.Outcomes.{one-ready, one-log, all-first, zeroed-none, also-nothing, outcome-words}
+use Rattle.append.proofs.Outcomes.{one-log-ready, one-log, all-first, zeroed-none, also-nothing, outcome-words}
 use Rattle.gate.specs.Gated.{fillChecks}
 use Rattle.gate.proofs.Gates.{same-refusal, none-refuses}
 use Rattle.gate.proofs.Lists.{filledWords, ownChecks, came, comes-told}
@@ -34,12 +34,9 @@ use Rattle.state.specs.Stated.{FileState, Stated}
 use Rattle.state.proofs.Sizes.{there-valid}
 use Rattle.state.proofs.Within.{file-below}
 use Rattle.fresh.specs.Fresh.{writtenOver, freshWord}
+use Rattle.writing.specs.Appends.{fileAppend}
 use Rattle.writing.specs.Kept.{Kept}
 use Rattle.writing.proofs.Words.{written-taken, written-at, write-words, kept-few, kept-taken, size-words, size-count}
-
--- an append of data, file pages from i on of a file of z bytes, to the log of inode k
-abbrev fileAppend : ℕ → ℕ → ℕ → Append
-fileAppend k i z = record { log = k; anew = false; file = i; size = z; second = 0; moved = 0; other = 0; valid = 0 }
 
 -- Call c asks whether inode k is a file, and then the rest.
 module _ (v l : List ℕ) (c : Call) (closed : needsClosed c ≡ true) (k : ℕ) (rest : Checks)
@@ -79,7 +76,7 @@ module _ (v l : List ℕ) (h : 4096 ≤ length l) (k s : ℕ) (marks t : List �
   file-ready ws ds x few most whole =
       let g = file-below v k s marks t f in
       rw same-append
-      (one-ready v marks (fileAppend k i z) ws ds l (record { volume = f .volume; good = f .good; closed = f .closed; served = f .served }) refl refl g valid-here
+      (one-log-ready v marks (fileAppend k i z) ws ds l (record { volume = f .volume; good = f .good; closed = f .closed; served = f .served }) refl refl g valid-here
       (omega arith) (λ y. x) (omega arith) whole (omega arith))
 
   file-outcome : (ws ds : List ℕ) (es : List (List ℕ)) (c : ℕ) (g : ℕ → ℕ) → entriesOf ws 0 (length ws / 8) ≡ es → length ds / 64 ≡ c
@@ -140,7 +137,7 @@ module _ (v l : List ℕ) (k o : ℕ) (bs : List ℕ) where
               comes-none (cameTo v l (write k o bs)) l
               (rw (write-behind, le-ltb 4096 (length bs) i, le-ltb 65536 (o + length bs) j, eq-eqb (length bs) 0 z))
 
-          -- c pages are covered, and ds is the array with their words; b and d are the append as the code makes it, of data from file page f on
+          -- c pages are covered, and ds is the array with their words; d is the append as the code makes it, of data from file page f on
           module _ (y : length bs ≡ 0 → ⊥) (c : ℕ) (x : c ≡ pagesCovered o (o + length bs)) (ds : List ℕ)
               (w : ds ≡ laid (replicate 576 0) 0 (freshWord (writtenOver (word v) t o bs) o) 0 (64 * pagesCovered o (o + length bs)))
               (f z : ℕ) (d : Append) (q : d ≡ fileAppend k f z) where
@@ -214,7 +211,7 @@ module _ (v l : List ℕ) (k z : ℕ) where
         unfolding groups action actionGroups sizeAction storeList
         size-none d = comes-none (cameTo v l (setSize k z)) l (rw (size-behind, le-ltb 65536 z i, old-size, eq-eqb z s d))
 
-        -- n words were laid, and es is the entry; b and d are the append as the code makes it, of data from file page f on
+        -- n words were laid, and es is the entry; d is the append as the code makes it, of data from file page f on
         module _ (y : z ≡ s → ⊥) (n : ℕ) (ds : List ℕ) (w : Kept (word v) t s z n ds) (u : ℕ) (es : List ℕ) (x : es ≡ sizeWords u)
             (f z′ : ℕ) (d : Append) (q : d ≡ fileAppend k f z′) where
           size-taken : n ≡ length (take n ds)

@@ -1,21 +1,22 @@
 // The calls that change a file's bytes and its size: write and set size. Each takes any bytes and numbers, works from the lent volume v
 // alone and fills a lent store list; a refusal leaves the list as it was.
 ghost use mathlib.Core.Path.{_≡_};
-ghost use mathlib.Core.Bool.{false};
 ghost use Prim.Native.Nat.{_≤_};
 ghost use lib.ListN.{length};
 ghost use Rattle.model.specs.Words.{word};
 ghost use Rattle.model.specs.FileMap.{write, setSize};
 ghost use Rattle.contents.specs.Laid.{Within};
 ghost use Rattle.answer.specs.Comes.{Fills};
+ghost use Rattle.writing.specs.Appends.{fileAppend};
 ghost use Rattle.writing.specs.Kept.{cuts, Kept};
 use answer::Answer;
 use append::Append;
 
-// Answers an append of data to the log of inode k: file pages from page `file` on, of a file that has this size then.
-// Example: to_file(5, 2, 1500) appends to the log of inode 5, with data for file page 2.
+// Answers an append to the log of inode k, whose data, if there are any, are file pages from page `file` on of a file that has this size
+// then.
+// Example: to_file(5, 2, 1500) appends to the log of inode 5, with data from file page 2 on.
 fn to_file(k: usize, file: u64, size: u64) -> Append
-    ensures { λ r. ⌜ r ≡ record { log = k; anew = false; file = file; size = size; second = 0; moved = 0; other = 0; valid = 0 } ⌝ }
+    ensures { λ r. ⌜ r ≡ fileAppend k file size ⌝ }
 {
     Append {
         log: k,

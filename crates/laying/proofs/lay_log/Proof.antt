@@ -1,6 +1,6 @@
 -- The entries of the table, and the last ones behind them.
 use Rattle.model.proofs.Prelude.{needs}
-use Rattle.laying.proofs.Steps.{layable-less, second-layable, log-laid}
+use Rattle.laying.proofs.Steps.{layable-less, last-layable, log-laid}
 use Rattle.laying.proofs.lay_log.Statement.{statement}
 use Rattle.laying.proofs.lay_log.Tie as tie
 
@@ -11,7 +11,7 @@ lay-log-spec =
     (λ c κs. (search needs, layable-less _ _ _ _ _ (c .before .before .before .before .pre .1) (search needs), search needs))
     (λ c κs. (
       search needs,
-      second-layable _ _ _ _ _ (c .before .before .before .before .before .before .before .before .args .last .now) _ _ (c .before .before .before .lay-entries .ensures) (c .before .before .before .before .before .before .before .before .pre .1),
+      last-layable _ _ _ _ _ (c .before .before .before .before .before .before .before .before .args .last .now) _ _ (c .before .before .before .lay-entries .ensures) (c .before .before .before .before .before .before .before .before .pre .1),
       search needs,
     ))
     (λ c. search needs)
