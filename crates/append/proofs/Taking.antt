@@ -81,10 +81,10 @@ unfolding lowestFew
 few-none f zero i = refl
 few-none f (suc t) i = refl
 
-few-passed : (f : ℕ → Bool) (t i n : ℕ) → f i ≡ false → lowestFew f (suc t) i n ≡ lowestFew f t (i + 1) n
+few-beyond : (f : ℕ → Bool) (t i n : ℕ) → f i ≡ false → lowestFew f (suc t) i n ≡ lowestFew f t (i + 1) n
 unfolding lowestFew
-few-passed f t i zero e = sym (few-none f t (i + 1))
-few-passed f t i (suc n) e = rw e
+few-beyond f t i zero e = sym (few-none f t (i + 1))
+few-beyond f t i (suc n) e = rw e
 
 few-same : (f g : ℕ → Bool) (t i n : ℕ) → ((p : ℕ) → i ≤ p → f p ≡ g p) → lowestFew f t i n ≡ lowestFew g t i n
 unfolding lowestFew
@@ -113,11 +113,11 @@ few-split f (suc t) i (suc a) n =
     let w : besides f (i ∷ xs) i ≡ false = rw (besides, has, e, eq-eqb i i refl) in
     let s : lowestFew (besides f (i ∷ xs)) t (i + 1) n ≡ lowestFew (besides f xs) t (i + 1) n
     = few-same (besides f (i ∷ xs)) (besides f xs) t (i + 1) n (λ p l. rw (besides, has-behind p i xs (omega arith))) in
-    rw (k, e, few-passed (besides f (i ∷ xs)) t i n w, s, few-split f t (i + 1) a n))
+    rw (k, e, few-beyond (besides f (i ∷ xs)) t i n w, s, few-split f t (i + 1) a n))
     (λ e.
     let xs = lowestFew f t (i + 1) (suc a) in
     let w : besides f xs i ≡ false = rw (besides, e) in
-    rw (k, e, few-passed (besides f xs) t i n w, ← few-split f t (i + 1) (suc a) n, k))
+    rw (k, e, few-beyond (besides f xs) t i n w, ← few-split f t (i + 1) (suc a) n, k))
 
 -- so a + n are lacking exactly where the first or the others are
 pub few-both : (f : ℕ → Bool) (P a n : ℕ) → ltb (length (lowestFew f P 0 (a + n))) (a + n)
