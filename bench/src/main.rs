@@ -39,7 +39,7 @@ Built without --release it says so and ends.
   clock                   what reading the clock takes
   page TEMPLATE FOLDER    prints the template, filled in with the tables (NAME.tsv) and texts (NAME.txt) of a folder
 
-KIND is nearly-empty, half-full, full or long-directory.
+KIND is nearly-empty, half-full, full, every-second-page-free or long-directory.
 ";
 
 fn main() {

@@ -57,6 +57,7 @@ timed! {
     read: |on, library| library::read(&on.volume, on.file, 0, &mut on.buffer);
     kth_name: |on, library| library::kth_name(&on.volume, on.names - 1, &mut on.buffer);
     free_count: |on, library| library::free_count(&on.volume);
+    gaps: |on, library| library::gaps(&on.volume, &mut on.room);
     format: |on, library| library::format(&mut on.volume, on.pages, on.inodes);
     carry_out: |on, library| library::carry_out(&mut on.volume, &on.list, on.list.len() as u64);
     create: |on, library| library::create(&on.volume, NEW, &mut on.room);

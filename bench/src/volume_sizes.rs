@@ -9,7 +9,7 @@ use crate::volumes::{Kind, Subject};
 /// The page counts.
 const PAGES: [u64; 9] = [16, 32, 64, 128, 256, 512, 1_024, 2_048, 4_096];
 /// The calls.
-const CALLS: [&str; 7] = [
+const CALLS: [&str; 8] = [
     "find",
     "read",
     "create",
@@ -17,6 +17,7 @@ const CALLS: [&str; 7] = [
     "unlink",
     "clean",
     "free_count",
+    "gaps",
 ];
 
 /// The times of one call on each volume; none where it is refused.

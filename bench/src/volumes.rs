@@ -16,16 +16,19 @@ pub enum Kind {
     HalfFull,
     /// Nearly every page in use.
     Full,
+    /// Every second page in use.
+    EverySecondFree,
     /// The directory's log in every page.
     LongDirectory,
 }
 
 impl Kind {
     /// Every kind, in the order of the tables.
-    pub const ALL: [Kind; 4] = [
+    pub const ALL: [Kind; 5] = [
         Kind::NearlyEmpty,
         Kind::HalfFull,
         Kind::Full,
+        Kind::EverySecondFree,
         Kind::LongDirectory,
     ];
 
@@ -35,6 +38,7 @@ impl Kind {
             Kind::NearlyEmpty => "nearly empty",
             Kind::HalfFull => "half full",
             Kind::Full => "full",
+            Kind::EverySecondFree => "every second page free",
             Kind::LongDirectory => "long directory",
         }
     }
@@ -51,6 +55,7 @@ impl Kind {
             Kind::NearlyEmpty => nearly_empty,
             Kind::HalfFull => half_full,
             Kind::Full => full,
+            Kind::EverySecondFree => every_second_free,
             Kind::LongDirectory => long_directory,
         }
     }
@@ -75,7 +80,7 @@ pub struct Subject {
     pub list: Vec<u64>,
     /// The same volume with two entries of the journal open.
     pub open: Vec<u8>,
-    /// A list for the changing calls to fill.
+    /// A list for the changing calls and gaps to fill.
     pub room: Vec<u64>,
 }
 
@@ -100,8 +105,16 @@ impl Subject {
         };
         assert_eq!(calls::find(&volume, name), Ok(inode));
         assert_eq!(calls::free_count(&volume), reference::free_count(&volume));
+        assert_eq!(in_gaps(&volume), calls::free_count(&volume));
         subject
     }
+}
+
+/// The lengths of the stretches of free pages, added up.
+fn in_gaps(volume: &[u8]) -> calls::Answer {
+    let mut pairs = vec![0; 4_096];
+    calls::gaps(volume, &mut pairs)?;
+    Ok(pairs.chunks(2).map(|pair| pair[1]).sum())
 }
 
 /// A volume with the directory's head and tail in the journal, and other values in their words.
@@ -148,37 +161,37 @@ fn name(number: u64) -> Vec<u8> {
     .into_bytes()
 }
 
-/// Nearly every page in use, ten at most left: an eighth for the directory's log, the others for files, a third of them log pages.
+/// Nearly every page in use, twenty at most left: an eighth for the directory's log, the others for files, a third of them log pages.
 fn full(pages: u64) -> Subject {
-    used_up_to(pages, pages)
+    used_in(pages, pages / 8, |_| true)
 }
 
 /// As [`full`], but the upper half of the pages is free.
 fn half_full(pages: u64) -> Subject {
-    used_up_to(pages, pages / 2)
+    used_in(pages, pages / 16, |page| page < pages / 2)
 }
 
-/// Every page below `end` in use, as [`full`] says.
-fn used_up_to(pages: u64, end: u64) -> Subject {
+/// As [`full`], but every second page is free, so that each free page is a stretch of its own.
+fn every_second_free(pages: u64) -> Subject {
+    used_in(pages, pages / 8, |page| page % 2 == 1)
+}
+
+/// These pages in use, as [`full`] says; so many of them, at least two, for the directory's log.
+fn used_in(pages: u64, log: u64, is_used: impl Fn(u64) -> bool) -> Subject {
     let inodes = inodes_for(pages);
     let mut volume = formatted(pages, inodes);
-    let mut unused = inodes / 8 + 1..end;
-    let log: Vec<u64> = unused.by_ref().take((end as usize / 8).max(2)).collect();
-    let left = unused.end - unused.start;
-    let files = (inodes - 1).min(223).min(left / 2);
-    put_log(
-        &mut volume,
-        0,
-        &log,
-        &directory(7 * log.len() as u64, files, files),
-    );
-    for file in 1..=files {
-        let last = if file == files { left % files } else { 0 };
-        let own: Vec<u64> = unused
-            .by_ref()
-            .take((left / files + last) as usize)
-            .collect();
-        put_file(&mut volume, file, &own);
+    let used: Vec<u64> = (inodes / 8 + 1..pages)
+        .filter(|&page| is_used(page))
+        .collect();
+    let (log, own) = used.split_at(log.max(2) as usize);
+    let left = own.len();
+    let files = (inodes as usize - 1).min(223).min(left / 2);
+    let entries = directory(7 * log.len() as u64, files as u64, files as u64);
+    put_log(&mut volume, 0, log, &entries);
+    let (firsts, last) = own.split_at(left / files * (files - 1));
+    let parts = firsts.chunks(left / files).chain([last]);
+    for (file, part) in (1..).zip(parts) {
+        put_file(&mut volume, file, part);
     }
     Subject::new(volume)
 }

@@ -4,6 +4,9 @@
  *
  * Memory that a call stores in (the volume of format and carry_out, a buffer, a list to be filled) overlaps no other memory that it is lent.
  * A list starts at a multiple of 8, as a uint64_t does; the bytes of a volume and of names may start anywhere.
+ *
+ * The pairs of volume_gaps are flat, first page and length by turns: pairs_len words have room for pairs_len / 2 pairs. Where the stretches
+ * of free pages are more, it answers -14, too many gaps.
  */
 #ifndef HOST_CALLS_H
 #define HOST_CALLS_H
@@ -14,6 +17,7 @@ int64_t volume_format(uint8_t *volume, size_t volume_len, uint64_t pages, uint64
 int64_t volume_carry_out(uint8_t *volume, size_t volume_len, const uint64_t *list, size_t list_len, uint64_t count);
 int64_t volume_kth_name(const uint8_t *volume, size_t volume_len, uint64_t k, uint8_t *buffer, size_t buffer_len);
 int64_t volume_free_count(const uint8_t *volume, size_t volume_len);
+int64_t volume_gaps(const uint8_t *volume, size_t volume_len, uint64_t *pairs, size_t pairs_len);
 int64_t volume_create(const uint8_t *volume, size_t volume_len, const uint8_t *name, size_t name_len, uint64_t *list, size_t list_len);
 int64_t volume_link(const uint8_t *volume, size_t volume_len, const uint8_t *old_name, size_t old_len, const uint8_t *new_name,
                     size_t new_len, uint64_t *list, size_t list_len);

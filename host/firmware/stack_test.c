@@ -1,5 +1,5 @@
 /*
- * Measures the stack that each of the fifteen calls takes on a volume with two files, where all of them have something to do, once with
+ * Measures the stack that each of the sixteen calls takes on a volume with two files, where all of them have something to do, once with
  * few names and once with more than the small index of names holds, and checks that a reading call takes at most 40 KB and a changing
  * one at most 64 KB. What a thread takes that makes no call is not counted. Prints a line for each call; the last line is "passed" or
  * "failed"; the exit status is 0 where all hold.
@@ -22,7 +22,7 @@ static const uint8_t first[] = "first", second[] = "second", third[] = "third";
 
 /* A name as pointer and length. */
 #define NAME(name) name, sizeof name - 1
-/* The volume and the list that a changing call takes. */
+/* The volume and the list that a call takes. */
 #define ON volume, sizeof volume
 #define INTO list, LIST_WORDS
 
@@ -33,6 +33,7 @@ static int64_t make_size(void) { return volume_size(ON, 1); }
 static int64_t make_read(void) { return volume_read(ON, 1, 3, bytes, sizeof bytes); }
 static int64_t make_kth_name(void) { return volume_kth_name(ON, 1, bytes, sizeof bytes); }
 static int64_t make_free_count(void) { return volume_free_count(ON); }
+static int64_t make_gaps(void) { return volume_gaps(ON, INTO); }
 static int64_t make_create(void) { return volume_create(ON, NAME(third), INTO); }
 static int64_t make_link(void) { return volume_link(ON, NAME(first), NAME(third), INTO); }
 static int64_t make_unlink(void) { return volume_unlink(ON, NAME(first), INTO); }
@@ -49,9 +50,10 @@ static const struct call {
 } all[] = {
     {"format", make_format, READING}, {"carry_out", make_carry_out, READING}, {"find", make_find, READING},
     {"size", make_size, READING}, {"read", make_read, READING}, {"kth_name", make_kth_name, READING},
-    {"free_count", make_free_count, READING}, {"create", make_create, CHANGING}, {"link", make_link, CHANGING},
-    {"unlink", make_unlink, CHANGING}, {"rename", make_rename, CHANGING}, {"write", make_write, CHANGING},
-    {"set_size", make_set_size, CHANGING}, {"clean", make_clean, CHANGING}, {"recover", make_recover, CHANGING},
+    {"free_count", make_free_count, READING}, {"gaps", make_gaps, READING}, {"create", make_create, CHANGING},
+    {"link", make_link, CHANGING}, {"unlink", make_unlink, CHANGING}, {"rename", make_rename, CHANGING},
+    {"write", make_write, CHANGING}, {"set_size", make_set_size, CHANGING}, {"clean", make_clean, CHANGING},
+    {"recover", make_recover, CHANGING},
 };
 
 /* Carries out the list of a call that must have something to change. */

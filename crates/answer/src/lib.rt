@@ -35,12 +35,14 @@ pub enum Answer {
     NoSpace,
     // 13: what is to be carried out is no store list for this volume.
     BadList,
+    // 14: the stretches of free pages are more than the list of pairs holds.
+    TooManyGaps,
 }
 
 // Answers the number of a refusal, by "What the screen says", and 0 of an answer that is none.
 // Example: refusal(Answer::Damaged) is 3, and refusal(Answer::Number(514)) is 0.
 pub fn refusal(answer: Answer) -> u64
-    ensures { λ r. ⌜ (r ≡ refusalOf (meaning answer)) × (r ≤ 13) ⌝ }
+    ensures { λ r. ⌜ (r ≡ refusalOf (meaning answer)) × (r ≤ 14) ⌝ }
 {
     match answer {
         Answer::Done => 0,
@@ -58,6 +60,7 @@ pub fn refusal(answer: Answer) -> u64
         Answer::DirectoryFull => 11,
         Answer::NoSpace => 12,
         Answer::BadList => 13,
+        Answer::TooManyGaps => 14,
     }
 }
 

@@ -18,7 +18,7 @@ use Rattle.survey.proofs.Facts.{volume-long, journal-ready}
 use Rattle.answer.specs.Meaning.{meaning, numbered}
 use Rattle.answer.specs.declared.Answer.{Answer}
 use Rattle.answer.specs.declared.Answer.the-variants.{Done, Number, ShortMemory, NoVolume, Damaged, JournalOpen, BadName, NotThere}
-use Rattle.answer.specs.declared.Answer.the-variants.{Taken, LongWrite, PastTheEnd, NoInode, DirectoryFull, NoSpace, BadList}
+use Rattle.answer.specs.declared.Answer.the-variants.{Taken, LongWrite, PastTheEnd, NoInode, DirectoryFull, NoSpace, BadList, TooManyGaps}
 use Rattle.answer.proofs.Codes.{others, NoNumber}
 use Rattle.gate.specs.Gated.{Tables, Gated}
 
@@ -43,6 +43,7 @@ no-number NoInode x o e = clash _ (some x) e
 no-number DirectoryFull x o e = clash _ (some x) e
 no-number NoSpace x o e = clash _ (some x) e
 no-number BadList x o e = clash _ (some x) e
+no-number TooManyGaps x o e = clash _ (some x) e
 
 -- what an answer that is no number means is a refusal
 pub refusal-of : {A : Type 0} (r : Answer) (x : model.Answer A) (f : A → Option ℕ) → ((a : A) → (n : ℕ) × (f a ≡ some n)) → NoNumber r

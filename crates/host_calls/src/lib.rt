@@ -9,14 +9,17 @@
 //         uint8_t *buffer, size_t buffer_len);
 //     int64_t volume_kth_name(const uint8_t *volume, size_t volume_len, uint64_t k, uint8_t *buffer, size_t buffer_len);
 //     int64_t volume_free_count(const uint8_t *volume, size_t volume_len);
+//     int64_t volume_gaps(const uint8_t *volume, size_t volume_len, uint64_t *pairs, size_t pairs_len);
 //     int64_t volume_create(const uint8_t *volume, size_t volume_len, const uint8_t *name, size_t name_len,
 //         uint64_t *list, size_t list_len);
 // and likewise volume_unlink; volume_link and volume_rename with two names; volume_write with inode, offset and bytes;
 // volume_set_size with inode and size; volume_clean with an inode; volume_recover.
 // find, size and read hand on to crate firmware: a static library exports the functions of its own crate alone.
 ghost use mathlib.Core.Path.{_≡_};
+ghost use Prim.Native.Nat.{_/_};
+ghost use lib.ListN.{length};
 ghost use Rattle.model.specs.Public.{formatAnswer, formatVolume, carryAnswer, carryVolume, findAnswer, sizeAnswer};
-ghost use Rattle.model.specs.Public.{readAnswer, readBuffer, kthNameAnswer, kthNameBuffer, freeAnswer};
+ghost use Rattle.model.specs.Public.{readAnswer, readBuffer, kthNameAnswer, kthNameBuffer, freeAnswer, gapsAnswer, gapsWords};
 ghost use Rattle.model.specs.FileMap.{create, link, unlink, rename, write, setSize, clean, recover};
 ghost use Rattle.answer.specs.Meaning.{plain, numbered, codeOf};
 ghost use Rattle.answer.specs.Comes.{Returns};
@@ -97,6 +100,18 @@ pub extern "C" fn volume_free_count(volume: &[u8]) -> i64
     ensures { λ r. ⌜ r ≡ codeOf (numbered (freeAnswer (now (volume .entry)))) ⌝ }
 {
     answer::code(volume::free_count(volume))
+}
+
+// Fills a list of words with the gaps, the longest stretches of free pages, by ascending first page: two words for each, its first page and
+// its length. Answers the count of gaps filled, or minus the number of the refusal: 2 no volume, 3 damaged, 4 journal open, 14 too many
+// gaps. The words behind the last pair keep their content, a last one that is none of a pair too, and of a refusal all words.
+// Example: of 16 pages just formatted with 8 inodes and three words it answers 1, and makes the first two words 2 and 14; with one word -14.
+#[no_mangle]
+pub extern "C" fn volume_gaps(volume: &[u8], pairs: &mut [u64]) -> i64
+    ensures { λ r. ⌜ (r ≡ codeOf (numbered (gapsAnswer (now (volume .entry)) (length (now (pairs .entry)) / 2))))
+        × (now (pairs .exit) ≡ gapsWords (now (volume .entry)) (now (pairs .entry))) ⌝ }
+{
+    answer::code(gaps::list_words(volume, pairs))
 }
 
 // Fills a store list that makes a new, empty file with a name. Answers the count of words filled, or minus the number of the refusal: 1

@@ -11,15 +11,19 @@ unfolding sumBelow
 sum-first zero f = refl
 sum-first (suc n) f = let r = sum-first n f in let e : suc n ≡ n + 1 = omega arith in let g = ap f e in omega arith
 
+-- how many of the n + 1 numbers from i on hold
+pub held-first : (f : ℕ → Bool) (n i : ℕ) → sumBelow (suc n) (λ j. bit (f (i + j))) ≡ bit (f i) + sumBelow n (λ j. bit (f (i + 1 + j)))
+held-first f n i =
+    sum-first n (λ j. bit (f (i + j)))
+    ∙ ap₂ _+_ (ap (λ x. bit (f x)) (add-zero i)) (sumBelow-same n _ _ (λ j l. ap (λ x. bit (f x)) (omega arith)))
+
 -- the lowest n of those that hold are n, or all of them
 few-count : (f : ℕ → Bool) (t i n : ℕ) → length (lowestFew f t i n) ≡ min n (sumBelow t (λ j. bit (f (i + j))))
 unfolding lowestFew sumBelow bit
 few-count f zero i n = omega arith
 few-count f (suc t) i zero = omega arith
 few-count f (suc t) i (suc n) =
-    let s : sumBelow (suc t) (λ j. bit (f (i + j))) ≡ bit (f i) + sumBelow t (λ j. bit (f (i + 1 + j)))
-    = sum-first t (λ j. bit (f (i + j)))
-    ∙ ap₂ _+_ (ap (λ x. bit (f x)) (add-zero i)) (sumBelow-same t _ _ (λ j l. ap (λ x. bit (f x)) (omega arith))) in
+    let s = held-first f t i in
     by-bool (f i)
     (λ e. let r = few-count f t (i + 1) n in rw (lowestFew, s, e) (omega arith))
     (λ e. let r = few-count f t (i + 1) (suc n) in rw (lowestFew, s, e) (omega arith))

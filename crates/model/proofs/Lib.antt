@@ -17,3 +17,4 @@ pub mod Lengths
 pub mod StoreLists
 pub mod Counting
 pub mod Served
+pub mod Gaps

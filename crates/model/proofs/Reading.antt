@@ -46,7 +46,7 @@ module _ (v : List ℕ) (a : isAccepted v ≡ true) (o : isOpen (word v) ≡ fal
   N = word v 1
 
   -- the volume passes the checks that every reading call begins with
-  passed : {A : Type 0} (ts : Checks) (x : Answer A) → firstRefusal (closedChecks (length v) (word v) ++ ts) x ≡ firstRefusal ts x
+  pub passed : {A : Type 0} (ts : Checks) (x : Answer A) → firstRefusal (closedChecks (length v) (word v) ++ ts) x ≡ firstRefusal ts x
   unfolding isAccepted closedChecks volumeChecks
   passed ts x =
       let is-volume : isVolume (length v) (word v) ≡ true = search ands in

@@ -1,6 +1,7 @@
 -- What a log's entries come to: the bytes of files, lists of names, and the file map.
 pub mod Bytes
 pub mod Stretches
+pub mod Gaps
 pub mod Append
 pub mod Mapped
 pub mod Write

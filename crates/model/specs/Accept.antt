@@ -1,9 +1,11 @@
 -- Document 01, "An accepted volume". P, N and the journal's own words are read as they stand, all else from the view.
 use Prim.Native.Nat.{ℕ, _+_, _-_, _*_, _/_, _%_}
 use mathlib.Core.Bool.{Bool, cond, _&&_, _||_, not}
+use mathlib.Core.List.{List}
 use lib.ListN.{length}
 use lib.Dec.{leb, ltb, eqb}
 use Rattle.model.specs.Lists.{bit, allBelow, sumBelow, all, has, count, isSome}
+use Rattle.model.specs.Stretches.{stretchesOf}
 use Rattle.model.specs.Words.{Mem}
 use Rattle.model.specs.Layout.{validWord, inPages, root, isDirectory, filePages, mostNames}
 use Rattle.model.specs.Journal.{journalOk, view}
@@ -39,6 +41,11 @@ free u P N p = inPages P N p && eqb (uses u P N p) 0
 
 unfoldable pub freeCount : Mem → ℕ → ℕ → ℕ
 freeCount u P N = sumBelow P (λ p. bit (free u P N p))
+
+-- Document 02, order 1: the free pages "as pairs of first page and length, sorted by first page, each pair the longest stretch possible and
+-- no stretch twice"
+unfoldable pub gaps : Mem → ℕ → ℕ → List (ℕ × ℕ)
+gaps u P N = stretchesOf (free u P N) P 0
 
 -- The bullets of the section, in its order; the journal's own are journalOk.
 

@@ -12,7 +12,8 @@ pub data Answer (A : Type 0) : Type 0 where
 -- "Format and carry out answer "done" and no number."
 pub record Nothing : Type 0 where
 
--- The numbers of document 01, "What the screen says", by their words.
+-- The numbers of document 01, "What the screen says", by their words; 14 is document 02's: "This number and those of later orders join
+-- document 01's table".
 abbrev pub shortMemory : ℕ
 shortMemory = 1
 
@@ -52,7 +53,11 @@ noSpace = 12
 abbrev pub badList : ℕ
 badList = 13
 
--- Conditions with their numbers, in the order in which they are checked: ascending.
+abbrev pub tooManyGaps : ℕ
+tooManyGaps = 14
+
+-- Conditions with their numbers, in the order in which they are checked: ascending, but "where an order names a number's place among the
+-- checks, that place decides and not the number."
 abbrev pub Checks : Type 0
 Checks = List (Bool × ℕ)
 
@@ -66,7 +71,7 @@ mapAnswer f (refused n) = refused n
 mapAnswer f (done a) = done (f a)
 
 -- Lent memory that a call fills from its start: "the rest keeps its content"; a refusal "moves nothing".
-abbrev pub filledFrom : List ℕ → Answer (List ℕ) → List ℕ
+abbrev pub filledFrom : {A : Type 0} → List A → Answer (List A) → List A
 filledFrom l (refused n) = l
 filledFrom l (done xs) = xs ++ drop (length xs) l
 

@@ -1,6 +1,6 @@
--- What else is promised: corollaries of the third demand, the shape of every store list, format, and the reading calls in terms of the file
--- map.
-use Prim.Native.Nat.{ℕ, _+_, _-_, _*_, _^_, _≤_}
+-- What else is promised: corollaries of the third demand, the shape of every store list, format, the reading calls in terms of the file
+-- map, the calls that are served, and the gaps.
+use Prim.Native.Nat.{ℕ, _+_, _-_, _*_, _^_, _≤_, _<_}
 use mathlib.Core.Path.{_≡_}
 use mathlib.Core.Logic.{_⊎_}
 use mathlib.Core.Bool.{Bool, true, false, cond, _&&_, _||_, not}
@@ -11,20 +11,20 @@ use lib.Dec.{leb, ltb, eqb}
 use Rattle.model.specs.Lists.{bit, isSome}
 use Rattle.model.specs.Words.{word}
 use Rattle.model.specs.Layout.{root, tailWord, pageEntries, fileBytes, writeBytes, mostNames, sizesOk, tablePages, listWords}
-use Rattle.model.specs.Journal.{isOpen}
+use Rattle.model.specs.Journal.{isOpen, view}
 use Rattle.model.specs.Entry.{nameOk, padded}
 use Rattle.model.specs.Log.{tailSlots}
 use Rattle.model.specs.State.{inodeOf}
-use Rattle.model.specs.Accept.{free, freeCount}
+use Rattle.model.specs.Accept.{free, freeCount, gaps}
 use Rattle.model.specs.FileMap.{FileMap, bytesIn, newInode, mapAfter, Call, create, link, unlink, rename, write, setSize, clean}
 use Rattle.model.specs.FileMap.{recover}
 use Rattle.model.specs.Stores.{Stores}
 use Rattle.model.specs.Power.{Power, held, cut, group, leaves}
-use Rattle.model.specs.Answer.{Answer, refused, done, notThere, filledFrom}
+use Rattle.model.specs.Answer.{Answer, refused, done, notThere, tooManyGaps, filledFrom}
 use Rattle.model.specs.Calls.{pagesFor, lowestRun, pagesCovered, cutsPage, cleanEntries, groups}
 use Rattle.model.specs.Public.{isAccepted, fills, callAnswer, formatAnswer, formatVolume, pairsOk, endsInFence, carryOut, findAnswer}
 use Rattle.model.specs.Public.{sizeAnswer}
-use Rattle.model.specs.Public.{readAnswer, readBuffer, kthNameAnswer, kthNameBuffer, freeAnswer}
+use Rattle.model.specs.Public.{readAnswer, readBuffer, kthNameAnswer, kthNameBuffer, freeAnswer, gapsAnswer}
 use Rattle.model.specs.Claim.{Bytes, CallBytes, Event, History, HistoryBytes, answerTo, volumeAfter, mapIn}
 
 -- Below, pieces of 8 bytes land whole.
@@ -224,3 +224,36 @@ module _ (v : List ℕ) where
 abbrev pub CallsServed : Type 0
 CallsServed =
     (v : List ℕ) → isAccepted v ≡ true → isOpen (word v) ≡ false → (list : List ℕ) → listWords ≤ length list → Serves v list (mapIn v)
+
+-- Gaps (document 02, order 1), on an accepted volume; what is answered, where its journal is closed.
+
+-- "sorted by first page, each pair the longest stretch possible and no stretch twice": each has a page at least, and ends before the page in
+-- front of the next one
+abbrev pub Apart : List (ℕ × ℕ) → Type 0
+Apart [] = Unit {0}
+Apart (a ∷ []) = 1 ≤ a .1
+Apart (a ∷ b ∷ gs) = (1 ≤ a .1) × (a .0 + a .1 < b .0) × Apart (b ∷ gs)
+
+-- how many of the pairs hold page p
+abbrev pub holding : ℕ → List (ℕ × ℕ) → ℕ
+holding p [] = 0
+holding p (g ∷ gs) = bit (leb (g .0) p && ltb p (g .0 + g .1)) + holding p gs
+
+-- the sum of the lengths
+abbrev pub lengths : List (ℕ × ℕ) → ℕ
+lengths [] = 0
+lengths (g ∷ gs) = g .1 + lengths gs
+
+-- the pairs gs of the volume v
+pub record GapsFine (v : List ℕ) (gs : List (ℕ × ℕ)) : Type 0 where
+  pub apart : Apart gs
+  -- every free page lies in exactly one pair, and every other page in none
+  pub each-once : (p : ℕ) → holding p gs ≡ bit (free (view (word v)) (word v 0) (word v 1) p)
+  -- "The lengths must add up to the count of free pages already given."
+  pub add-up : isOpen (word v) ≡ false → freeAnswer v ≡ done (lengths gs)
+  -- 14 exactly where a list of n pairs is too short
+  pub answers : isOpen (word v) ≡ false → (n : ℕ)
+      → gapsAnswer v n ≡ cond (ltb n (length gs)) (refused tooManyGaps) (done (length gs))
+
+abbrev pub GapsDone : Type 0
+GapsDone = (v : List ℕ) → isAccepted v ≡ true → GapsFine v (gaps (view (word v)) (word v 0) (word v 1))

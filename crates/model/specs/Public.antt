@@ -1,8 +1,8 @@
--- The fifteen calls, for all bytes and numbers: the answer, and each byte of lent memory afterwards.
+-- The sixteen calls, for all bytes and numbers: the answer, and each byte of lent memory afterwards.
 -- v are the bytes of the lent volume before the call. Format and carry out may change them; every other call leaves them.
-use Prim.Native.Nat.{ℕ, _+_, _-_, _*_, _%_, min}
+use Prim.Native.Nat.{ℕ, _+_, _-_, _*_, _/_, _%_, min}
 use mathlib.Core.Bool.{Bool, true, false, cond, _&&_, _||_, not}
-use mathlib.Core.List.{List, [], _∷_, _++_}
+use mathlib.Core.List.{List, [], _∷_, _++_, map}
 use lib.ListN.{length, getD, take, drop, replicate}
 use lib.Dec.{leb, ltb, eqb}
 use Rattle.model.specs.Lists.{valuesFrom}
@@ -11,11 +11,11 @@ use Rattle.model.specs.Layout.{sizesOk, tablePages, root, nameBytes, lis
 use Rattle.model.specs.Journal.{isOpen, view}
 use Rattle.model.specs.Entry.{nameOk, padded}
 use Rattle.model.specs.State.{fileOf, fileByte, namesOf, inodeOf}
-use Rattle.model.specs.Accept.{freeCount, accepted}
+use Rattle.model.specs.Accept.{freeCount, gaps, accepted}
 use Rattle.model.specs.FileMap.{Call, create, link, unlink, rename, write, setSize, clean, recover}
 use Rattle.model.specs.Stores.{fence, storeList, carried}
 use Rattle.model.specs.Answer.{Answer, done, Nothing, Checks, firstRefusal, mapAnswer, filledFrom, replacedBy, shortMemory, noVolume}
-use Rattle.model.specs.Answer.{damaged, journalOpen, badName, notThere, badList}
+use Rattle.model.specs.Answer.{damaged, journalOpen, badName, notThere, badList, tooManyGaps}
 use Rattle.model.specs.Calls.{stands, noFile, checks, groups}
 
 -- A volume by its length and its words 0, 1 and 2. "The slice is exactly P × 512 bytes long."
@@ -140,6 +140,13 @@ module _ (len : ℕ) (m : Mem) where
   unfoldable pub countFree : Answer ℕ
   countFree = firstRefusal (closedChecks len m) (done (freeCount (view m) P N))
 
+  -- Document 02, order 1, for a list of n pairs: "A volume whose stretches exceed the list is refused with 14, checked after 4; 1 does not
+  -- apply."
+  unfoldable pub gapsIn : ℕ → Answer (List (ℕ × ℕ))
+  gapsIn n =
+      let gs = gaps (view m) P N in
+      firstRefusal (closedChecks len m ++ (ltb n (length gs), tooManyGaps) ∷ []) (done gs)
+
 unfoldable pub findAnswer : List ℕ → List ℕ → Answer ℕ
 findAnswer v n = find (length v) (word v) root n
 
@@ -162,3 +169,20 @@ kthNameBuffer v k buffer = filledFrom buffer (mapAnswer padded (kthName (length 
 
 unfoldable pub freeAnswer : List ℕ → Answer ℕ
 freeAnswer v = countFree (length v) (word v)
+
+-- "The answer is the count of pairs filled", for a list of n pairs
+unfoldable pub gapsAnswer : List ℕ → ℕ → Answer ℕ
+gapsAnswer v n = mapAnswer length (gapsIn (length v) (word v) n)
+
+-- "later pairs keep their content": the lent list, whose pairs `pair` makes from a first page and a length
+unfoldable pub gapsList : {A : Type 0} → (ℕ × ℕ → A) → List ℕ → List A → List A
+gapsList pair v list = filledFrom list (mapAnswer (map pair) (gapsIn (length v) (word v) (length list)))
+
+-- pairs as words: first page, length, first page, length, ..
+unfoldable pub flat : List (ℕ × ℕ) → List ℕ
+flat [] = []
+flat (g ∷ gs) = g .0 ∷ g .1 ∷ flat gs
+
+-- the lent list, where its pairs are words, two for each pair; a last word that is none of a pair keeps its content
+unfoldable pub gapsWords : List ℕ → List ℕ → List ℕ
+gapsWords v list = filledFrom list (mapAnswer flat (gapsIn (length v) (word v) (length list / 2)))

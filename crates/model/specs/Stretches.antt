@@ -1,7 +1,7 @@
 -- Longest stretches. Numbers stand on pages: file pages on data pages, or pages on themselves.
 use Prim.Native.Nat.{ℕ, zero, suc, _+_}
-use mathlib.Core.Bool.{cond, _&&_}
-use mathlib.Core.List.{List, [], _∷_}
+use mathlib.Core.Bool.{Bool, cond, _&&_}
+use mathlib.Core.List.{List, [], _∷_, map}
 use lib.Dec.{eqb}
 
 -- `count` consecutive numbers from `first` on, on as many consecutive pages from `page` on
@@ -21,3 +21,8 @@ ahead i p (s ∷ ss) =
 unfoldable pub stretches : (ℕ → ℕ) → ℕ → ℕ → List Stretch
 stretches f zero i = []
 stretches f (suc n) i = let r = stretches f n (i + 1) in cond (eqb (f i) 0) r (ahead i (f i) r)
+
+-- the longest stretches of those of the n numbers from i on of which f holds, ascending, as pairs of first number and length: each number
+-- stands on itself, and 0 nowhere
+unfoldable pub stretchesOf : (ℕ → Bool) → ℕ → ℕ → List (ℕ × ℕ)
+stretchesOf f n i = map (λ s. (s .first, s .count)) (stretches (λ p. cond (f p) p 0) n i)

@@ -13,7 +13,7 @@ use layout::Sizes;
 
 // Answers whether page p is a log or data page that is not marked.
 // Example: of 16 pages, 8 inodes and marks that are all 0 page 2 is, and page 1 is not: it is of the inode table.
-fn is_free(marks: &[u8; 4096], sizes: Sizes, p: usize) -> bool
+pub fn is_free(marks: &[u8; 4096], sizes: Sizes, p: usize) -> bool
     requires { ⌜ (p < sizes .pages) × (sizes .pages ≤ 4096) ⌝ }
     ensures { λ r. ⌜ r ≡ unmarked (now (marks .entry)) (sizes .pages) (sizes .inodes) p ⌝ }
 {

@@ -1,14 +1,17 @@
-// The fifteen calls of the file store. Each works from the lent volume v alone, takes any bytes and any numbers, and answers
+// The sixteen calls of the file store. Each works from the lent volume v alone, takes any bytes and any numbers, and answers
 // what document 01 says; a refusal leaves every lent byte as it was. A call that changes files fills a lent store list and
 // leaves the volume: carry_out stores it.
 ghost use mathlib.Core.Path.{_≡_};
 ghost use Rattle.model.specs.FileMap.{create, link, unlink, rename, write, setSize, clean, recover};
 ghost use Rattle.model.specs.Public.{formatAnswer, formatVolume, carryAnswer, carryVolume, findAnswer, freeAnswer, kthNameAnswer};
 ghost use Rattle.model.specs.Public.{kthNameBuffer};
-ghost use Rattle.model.specs.Public.{sizeAnswer, readAnswer, readBuffer};
+ghost use Rattle.model.specs.Public.{sizeAnswer, readAnswer, readBuffer, gapsAnswer, gapsList};
 ghost use Rattle.answer.specs.Comes.{Fills};
 ghost use Rattle.answer.specs.Meaning.{meaning, plain, numbered};
+ghost use Rattle.gaps.specs.Gaps.{gapOf};
+ghost use lib.ListN.{length};
 use answer::Answer;
+use gaps::Gap;
 
 // Makes v a new volume with so many pages and inodes, an empty directory and no files: zeroes page 0 and the inode
 // table, stores the header and leaves the other pages. Answers Done, or NoVolume where a volume may not have these
@@ -169,4 +172,29 @@ pub fn free_count(v: &[u8]) -> Answer
     ensures { λ r. ⌜ meaning r ≡ numbered (freeAnswer (now (v .entry))) ⌝ }
 {
     reading::free_count(v)
+}
+
+// Fills a list with the gaps, the longest stretches of free pages, by ascending first page. Answers Number with the count of gaps filled;
+// the pairs behind them keep their content, and of a refusal all pairs.
+// Refusals: NoVolume, Damaged, JournalOpen, TooManyGaps.
+// Example: of 16 pages just formatted with 8 inodes and a list of two pairs gaps(v, list) is Number(1), and makes the first pair page 2
+// and 14 pages; with a list of no pairs it is TooManyGaps.
+pub fn gaps(v: &[u8], list: &mut [Gap]) -> Answer
+    ensures { λ r. ⌜ (meaning r ≡ numbered (gapsAnswer (now (v .entry)) (length (now (list .entry)))))
+        × (now (list .exit) ≡ gapsList gapOf (now (v .entry)) (now (list .entry))) ⌝ }
+{
+    let mut marks = [0u8; 4096];
+    let answer = gaps::judge(v, list.len(), &mut marks);
+    let n = gaps::count(answer);
+    let mut gap = Gap {
+        first: 0,
+        length: 0,
+    };
+    let mut i: usize = 0;
+    while i < n {
+        gap = gaps::next_gap(v, &marks, gap);
+        list[i] = gap;
+        i = i + 1;
+    }
+    answer
 }

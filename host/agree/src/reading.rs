@@ -4,8 +4,8 @@ use crate::arguments::{inode, new_name, offset, old_name, standing};
 use crate::outcome::Outcome;
 use crate::sheet::{Equation, Sheet};
 use crate::{term, volumes};
-use reference::{find, free_count, kth_name, listing, read, size, Answer, FileMap, Refusal};
-use samples::{any_number, formatted, Random};
+use reference::{find, free_count, gaps, kth_name, listing, read, size, Answer, FileMap, Refusal};
+use samples::{any_number, formatted, marked_list, Random};
 
 /// A reading call.
 #[derive(Clone, Copy, Debug, PartialEq, Eq)]
@@ -20,22 +20,25 @@ pub enum Kind {
     KthName,
     /// Count of free pages.
     FreeCount,
+    /// Gaps.
+    Gaps,
     /// The program volume-list, which answers a text.
     Listing,
 }
 
 impl Kind {
     /// All of them.
-    pub const ALL: [Kind; 6] = [
+    pub const ALL: [Kind; 7] = [
         Kind::Find,
         Kind::Size,
         Kind::Read,
         Kind::KthName,
         Kind::FreeCount,
+        Kind::Gaps,
         Kind::Listing,
     ];
 
-    /// The call's name, and the refusals that document 01 gives it.
+    /// The call's name, and the refusals that documents 01 and 02 give it.
     pub fn told(self) -> (&'static str, &'static [u64]) {
         match self {
             Kind::Find => ("find", &[2, 3, 4, 5, 6]),
@@ -43,6 +46,7 @@ impl Kind {
             Kind::Read => ("read", &[2, 3, 4, 6]),
             Kind::KthName => ("k-th name", &[1, 2, 3, 4, 6]),
             Kind::FreeCount => ("free count", &[2, 3, 4]),
+            Kind::Gaps => ("gaps", &[2, 3, 4, 14]),
             Kind::Listing => ("volume-list", &[2, 3, 4]),
         }
     }
@@ -73,46 +77,51 @@ impl Kind {
                 Reading::KthName(k, random.bytes(length as usize))
             }
             Kind::FreeCount => Reading::FreeCount,
+            Kind::Gaps => Reading::Gaps(marked_list(random.below(12))),
             Kind::Listing => Reading::Listing,
         }
     }
 }
 
 /// A reading call with its arguments: of find the name, of size the inode, of read the inode, the
-/// offset and the lent buffer, of k-th name k and the lent buffer.
+/// offset and the lent buffer, of k-th name k and the lent buffer, of gaps the words of the lent list.
 enum Reading {
     Find(Vec<u8>),
     Size(u64),
     Read(u64, u64, Vec<u8>),
     KthName(u64, Vec<u8>),
     FreeCount,
+    Gaps(Vec<u64>),
     Listing,
 }
 
 impl Reading {
-    /// The reference's answer, and the lent buffer afterwards. The listing answers as the free
-    /// count, which has the same refusals.
-    fn make(&self, volume: &[u8]) -> (Answer, Vec<u8>) {
-        let mut lent = match self {
-            Reading::Read(_, _, buffer) | Reading::KthName(_, buffer) => buffer.clone(),
-            _ => Vec::new(),
-        };
-        let answer = match self {
-            Reading::Find(name) => find(volume, name),
-            Reading::Size(inode) => size(volume, *inode),
-            Reading::Read(inode, offset, _) => read(volume, *inode, *offset, &mut lent),
-            Reading::KthName(k, _) => kth_name(volume, *k, &mut lent),
-            Reading::FreeCount | Reading::Listing => free_count(volume),
-        };
-        (answer, lent)
+    /// The reference's answer, and the lent buffer or list afterwards. The listing answers as the
+    /// free count, which has the same refusals.
+    fn make(&self, volume: &[u8]) -> (Answer, Vec<u64>) {
+        let none = Vec::new();
+        match self {
+            Reading::Find(name) => (find(volume, name), none),
+            Reading::Size(inode) => (size(volume, *inode), none),
+            Reading::Read(inode, offset, buffer) => {
+                with_buffer(buffer, |lent| read(volume, *inode, *offset, lent))
+            }
+            Reading::KthName(k, buffer) => with_buffer(buffer, |lent| kth_name(volume, *k, lent)),
+            Reading::Gaps(list) => {
+                let mut lent = list.clone();
+                (gaps(volume, &mut lent), lent)
+            }
+            Reading::FreeCount | Reading::Listing => (free_count(volume), none),
+        }
     }
 
-    /// Asks from the words of the volume; of read and k-th name for the bytes that they fill.
+    /// Asks from the words of the volume; of read and k-th name for the bytes that they fill, of gaps
+    /// for the pairs.
     fn by_words(&self, volume: &[u8], name: &str) -> Sheet {
         let mut sheet = Sheet::new(name);
         let at = format!("{} {}", volume.len(), sheet.words(volume));
         let (answer, lent) = self.make(volume);
-        let filled = answer.map(|count| term::bytes(&lent[..(count as usize).min(lent.len())]));
+        let filled = answer.map(|count| term::numbers(&lent[..(count as usize).min(lent.len())]));
         let (kind, left, right) = match self {
             Reading::Find(name) => {
                 let left = format!("find {at} 0 {}", term::bytes(name));
@@ -131,6 +140,11 @@ impl Reading {
                 ("Answer (List ℕ)", left, term::answered(filled))
             }
             Reading::FreeCount => ("Answer ℕ", format!("countFree {at}"), term::number(answer)),
+            Reading::Gaps(list) => {
+                let pairs = answer.map(|count| term::pairs(&lent[..2 * count as usize]));
+                let left = format!("gapsIn {at} {}", list.len() / 2);
+                ("Answer (List (ℕ × ℕ))", left, term::answered(pairs))
+            }
             Reading::Listing => {
                 let text = term::bytes(&listing(volume));
                 ("List ℕ", format!("listingOf {at}"), text)
@@ -140,12 +154,12 @@ impl Reading {
         sheet
     }
 
-    /// Asks from the bytes of the volume; also for the lent buffer afterwards.
+    /// Asks from the bytes of the volume; also for the lent buffer or list afterwards.
     fn by_bytes(&self, volume: &[u8], name: &str) -> Sheet {
         let mut sheet = Sheet::new(name);
         let v = sheet.bytes("bytes", volume);
         let (answer, lent) = self.make(volume);
-        let after = term::bytes(&lent);
+        let after = term::numbers(&lent);
         let answer = term::number(answer);
         match self {
             Reading::Find(name) => {
@@ -164,6 +178,12 @@ impl Reading {
                 sheet.ask_of("buffer", listed(format!("kthNameBuffer {at}"), after));
             }
             Reading::FreeCount => sheet.ask(numbered(format!("freeAnswer {v}"), answer)),
+            Reading::Gaps(list) => {
+                let pairs = list.len() / 2;
+                sheet.ask(numbered(format!("gapsAnswer {v} {pairs}"), answer));
+                let left = format!("gapsWords {v} {}", term::numbers(list));
+                sheet.ask_of("list", listed(left, after));
+            }
             Reading::Listing => {
                 let text = term::bytes(&listing(volume));
                 sheet.ask(listed(format!("listing {v}"), text));
@@ -173,13 +193,20 @@ impl Reading {
     }
 }
 
+/// Makes a call with a copy of a buffer; answers also the bytes that it then holds.
+fn with_buffer(buffer: &[u8], call: impl FnOnce(&mut [u8]) -> Answer) -> (Answer, Vec<u64>) {
+    let mut lent = buffer.to_vec();
+    let answer = call(&mut lent);
+    (answer, lent.into_iter().map(u64::from).collect())
+}
+
 /// An equation between answers that are numbers.
 fn numbered(left: String, right: String) -> Equation {
     let kind = "Answer ℕ";
     Equation { kind, left, right }
 }
 
-/// An equation between lists of bytes.
+/// An equation between lists of bytes or words.
 fn listed(left: String, right: String) -> Equation {
     let kind = "List ℕ";
     Equation { kind, left, right }
@@ -197,26 +224,52 @@ pub fn reading(kind: Kind, outcome: Outcome, name: &str, random: &mut Random) ->
     })
 }
 
-/// A call by bytes, done on a volume that is quick to read, with what it leaves in a buffer.
+/// A call by bytes, done on a volume that is quick to read, with what it leaves in a buffer or list:
+/// of read and gaps some of it is filled and some keeps its content.
 pub fn buffer(kind: Kind, name: &str, random: &mut Random) -> Option<Sheet> {
     let volume = match kind {
         Kind::Read => volumes::young_written(random),
+        Kind::Gaps => volumes::young_cleaned(random),
         _ => volumes::young(random),
     };
     let call = kind.call(&standing(&volume), random);
     let (answer, lent) = call.make(&volume);
-    let filled =
-        answer.is_ok_and(|count| kind != Kind::Read || (1..lent.len() as u64).contains(&count));
-    filled.then(|| call.by_bytes(&volume, name))
+    let part = |filled: u64| (1..lent.len() as u64).contains(&filled);
+    let wanted = answer.is_ok_and(|count| match kind {
+        Kind::Read => part(count),
+        Kind::Gaps => part(2 * count),
+        _ => true,
+    });
+    wanted.then(|| call.by_bytes(&volume, name))
 }
 
-/// A call by bytes that is refused with 6: the buffer keeps its bytes.
-pub fn kept_buffer(kind: Kind, name: &str, random: &mut Random) -> Option<Sheet> {
-    let volume = volumes::young(random);
+/// A call by bytes that is refused with this: the buffer or list keeps its content.
+pub fn kept_buffer(kind: Kind, refusal: Refusal, name: &str, random: &mut Random) -> Option<Sheet> {
+    let volume = match kind {
+        Kind::Gaps => volumes::young_cleaned(random),
+        _ => volumes::young(random),
+    };
     let call = kind.call(&standing(&volume), random);
     let (answer, lent) = call.make(&volume);
-    let refused = answer == Err(Refusal::NotThere) && !lent.is_empty();
+    let refused = answer == Err(refusal) && !lent.is_empty();
     refused.then(|| call.by_bytes(&volume, name))
+}
+
+/// Gaps on a volume without a free page: no pair, also where the list has none.
+pub fn no_gaps(name: &str, random: &mut Random) -> Option<Sheet> {
+    let volume = volumes::crowded(random);
+    let call = Reading::Gaps(marked_list(random.below(4)));
+    let none = free_count(&volume) == Ok(0);
+    none.then(|| call.by_words(&volume, name))
+}
+
+/// Gaps on a volume with three stretches of free pages or more, into a list that lacks so many pairs.
+pub fn several_gaps(lacking: u64, name: &str, random: &mut Random) -> Option<Sheet> {
+    let volume = volumes::used(random);
+    let (answer, _) = Reading::Gaps(marked_list(64)).make(&volume);
+    let count = answer.ok().filter(|&count| count >= 3)?;
+    let call = Reading::Gaps(marked_list(2 * (count - lacking)));
+    Some(call.by_words(&volume, name))
 }
 
 /// A good volume of 129 pages, which is too long for volume-list.

@@ -4,6 +4,7 @@ use crate::outcome::Outcome;
 use crate::sheet::Sheet;
 use crate::storing::Spoiled;
 use crate::{changing, maps, reading, storing};
+use reference::Refusal;
 use samples::Random;
 
 /// A draw: a sheet with this name, where what was drawn comes to the stratum's outcome.
@@ -108,7 +109,7 @@ fn of_changing() -> Vec<Stratum> {
     all
 }
 
-/// The five reading calls and volume-list.
+/// The six reading calls and volume-list.
 fn of_reading() -> Vec<Stratum> {
     let mut all = Vec::new();
     for kind in reading::Kind::ALL {
@@ -122,9 +123,23 @@ fn of_reading() -> Vec<Stratum> {
         let draw = move |name: &str, random: &mut Random| reading::buffer(kind, name, random);
         all.push(Stratum::new(call, Outcome::Done, draw).with("by bytes"));
     }
-    for kind in [reading::Kind::Read, reading::Kind::KthName] {
-        let draw = move |name: &str, random: &mut Random| reading::kept_buffer(kind, name, random);
-        all.push(Stratum::new(kind.told().0, Outcome::Refused(6), draw).with("by bytes"));
+    for (kind, refusal) in [
+        (reading::Kind::Read, Refusal::NotThere),
+        (reading::Kind::KthName, Refusal::NotThere),
+        (reading::Kind::Gaps, Refusal::TooManyGaps),
+    ] {
+        let outcome = Outcome::Refused(refusal.number());
+        let draw = move |name: &str, random: &mut Random| {
+            reading::kept_buffer(kind, refusal, name, random)
+        };
+        all.push(Stratum::new(kind.told().0, outcome, draw).with("by bytes"));
+    }
+    let none = Stratum::new("gaps", Outcome::Done, reading::no_gaps);
+    all.push(none.with("no free page"));
+    for (outcome, lacking) in [(Outcome::Done, 0), (Outcome::Refused(14), 1)] {
+        let draw =
+            move |name: &str, random: &mut Random| reading::several_gaps(lacking, name, random);
+        all.push(Stratum::new("gaps", outcome, draw).with("several stretches"));
     }
     let longer = Stratum::new("volume-list", Outcome::Refused(2), reading::long_listing);
     all.push(longer.with("longer"));

@@ -2,6 +2,7 @@
 
 use crate::outcome::Outcome;
 use crate::strata::Stratum;
+use reference::Refusal;
 use std::fmt;
 
 /// Counts of equations, calls in the order of their first stratum.
@@ -51,7 +52,7 @@ fn width(column: Outcome) -> usize {
 impl fmt::Display for Table {
     fn fmt(&self, to: &mut fmt::Formatter<'_>) -> fmt::Result {
         let mut columns = vec![Outcome::Done, Outcome::Unchanged];
-        columns.extend((1..=13).map(Outcome::Refused));
+        columns.extend(Refusal::ALL.map(|refusal| Outcome::Refused(refusal.number())));
         write!(to, "{:12}", "")?;
         for column in &columns {
             write!(to, "{column:>width$}", width = width(*column))?;

@@ -34,6 +34,15 @@ pub fn bytes(values: &[u8]) -> String {
     numbers(&values)
 }
 
+/// A list of pairs, in brackets, from its numbers by turns.
+pub fn pairs(values: &[u64]) -> String {
+    let mut text = String::new();
+    for pair in values.chunks_exact(2) {
+        text += &format!("({}, {}) ∷ ", pair[0], pair[1]);
+    }
+    format!("({text}[])")
+}
+
 /// The words of a volume, as a function from a list for each page.
 pub fn memory(volume: &[u8]) -> String {
     let mut pages = String::new();

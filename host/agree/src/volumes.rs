@@ -7,8 +7,9 @@ use crate::outcome::Outcome;
 use reference::layout::{set_word, word};
 use reference::{cut, format, free_count, groups, land, Call};
 use samples::{
-    any_call, any_number, change_live_word, create, entry_add, filled, flip_live_bit, formatted,
-    headed_noise, live_words, made_up_sized, map_of, put_log, random_cut, run, write, Random,
+    any_call, any_number, change_live_word, clean, create, entry_add, filled, flip_live_bit,
+    formatted, headed_noise, live_words, made_up_sized, map_of, put_log, random_cut, run, write,
+    Random,
 };
 
 /// A volume on which a call may well come to this.
@@ -98,6 +99,14 @@ pub fn young_written(random: &mut Random) -> Vec<u8> {
     volume
 }
 
+/// A young volume whose directory's log was cleaned into the next page, so that the page before it is
+/// free too: two stretches of free pages.
+pub fn young_cleaned(random: &mut Random) -> Vec<u8> {
+    let mut volume = young(random);
+    run(&mut volume, &clean(0)).expect("there is room for a log");
+    volume
+}
+
 /// A volume whose journal a cut left open.
 fn left_open(random: &mut Random) -> Vec<u8> {
     let mut volume = used(random);
@@ -162,7 +171,7 @@ pub fn unheaded(random: &mut Random) -> Vec<u8> {
 }
 
 /// A volume with hardly a free page left.
-fn crowded(random: &mut Random) -> Vec<u8> {
+pub fn crowded(random: &mut Random) -> Vec<u8> {
     let mut volume = used(random);
     for _ in 0..40 {
         let Ok(free @ 1..) = free_count(&volume) else {

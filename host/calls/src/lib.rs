@@ -84,6 +84,8 @@ mod exports {
             buffer_len: usize,
         ) -> i64;
         pub fn volume_free_count(volume: *const u8, len: usize) -> i64;
+        pub fn volume_gaps(volume: *const u8, len: usize, pairs: *mut u64, pairs_len: usize)
+            -> i64;
     }
 }
 
@@ -269,4 +271,45 @@ pub fn kth_name(volume: &[u8], k: u64, buffer: &mut [u8]) -> Answer {
 pub fn free_count(volume: &[u8]) -> Answer {
     // SAFETY: the pointer and the length are those of a slice that is lent for the call.
     answer(unsafe { exports::volume_free_count(volume.as_ptr(), volume.len()) })
+}
+
+/// Gaps: fills in the stretches of free pages, each as a pair of its first page and its length; answers the count of
+/// pairs filled.
+///
+/// The pairs are sorted by first page, each is the longest stretch possible and none is there twice, so that the
+/// lengths add up to [`free_count`]. The list is flat, first page and length by turns: one of n words has room for
+/// n / 2 pairs, and an odd last word is never filled. Later pairs keep their content. A volume has at most 2,047
+/// stretches, so that a list of 4,094 words is always long enough; with no free page one of no words will do. The
+/// refusals are 2 ([`Refusal::NoVolume`]), 3 ([`Refusal::Damaged`]), 4 ([`Refusal::JournalOpen`]) and 14
+/// ([`Refusal::TooManyGaps`], more stretches than the list has pairs).
+///
+/// ```
+/// use calls::{carry_out, clean, create, format, gaps, Refusal};
+///
+/// let mut volume = vec![0; 16 * 512];
+/// format(&mut volume, 16, 8)?;
+/// let mut pairs = [7; 6];
+/// assert_eq!(gaps(&volume, &mut pairs), Ok(1));
+/// assert_eq!(pairs, [2, 14, 7, 7, 7, 7]);
+///
+/// let mut list = vec![0; 4_096];
+/// let count = create(&volume, b"A1", &mut list)?;
+/// carry_out(&mut volume, &list, count)?;
+/// let count = clean(&volume, 0, &mut list)?; // the directory's log goes from page 2 to page 3
+/// carry_out(&mut volume, &list, count)?;
+/// assert_eq!(gaps(&volume, &mut pairs), Ok(2));
+/// assert_eq!(pairs, [2, 1, 4, 12, 7, 7]);
+/// assert_eq!(gaps(&volume, &mut pairs[..3]), Err(Refusal::TooManyGaps));
+/// # Ok::<(), Refusal>(())
+/// ```
+pub fn gaps(volume: &[u8], pairs: &mut [u64]) -> Answer {
+    // SAFETY: the pointers and the lengths are those of slices that are lent for the call.
+    answer(unsafe {
+        exports::volume_gaps(
+            volume.as_ptr(),
+            volume.len(),
+            pairs.as_mut_ptr(),
+            pairs.len(),
+        )
+    })
 }

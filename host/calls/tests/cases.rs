@@ -13,6 +13,7 @@ const COMPILED: Library = Library {
     read: calls::read,
     kth_name: calls::kth_name,
     free_count: calls::free_count,
+    gaps: calls::gaps,
 };
 
 #[test]

@@ -94,7 +94,7 @@ pub fn advice(refusal: Refusal, volume: &str) -> String {
             format!("224 names stand already; remove some with 'office rm {volume} NAME'")
         }
         Refusal::NoSpace => format!("remove files, or run 'office clean {volume}'"),
-        Refusal::ShortMemory | Refusal::LongWrite | Refusal::BadList => {
+        Refusal::ShortMemory | Refusal::LongWrite | Refusal::BadList | Refusal::TooManyGaps => {
             "the tool asked wrongly; nothing was stored".into()
         }
     }

@@ -1,8 +1,8 @@
 //! The office tool: files of the host put into a volume and read back.
 //!
 //! A volume is kept in a file of the host. `office COMMAND VOLUME ..` works on it: `format`, `put`, `get`, `ls`,
-//! `cat`, `mv`, `ln`, `rm`, `truncate`, `clean`, `recover`, `check`, `map` and `log`; `office --help` says what each
-//! does.
+//! `cat`, `mv`, `ln`, `rm`, `truncate`, `clean`, `recover`, `check`, `map`, `gaps` and `log`; `office --help` says what
+//! each does.
 //!
 //! Nothing in the tool stores in a volume by itself. Every change is a store list that a compiled call of [`calls`]
 //! filled, and [`store`] writes it to the file group by group, with a sync of the file as the fence. So a process
@@ -12,9 +12,9 @@
 //!
 //! Only [`show`], which stores nothing, reads through the reference model.
 //!
-//! The modules, top-down: [`commands`] (what each command does), [`store`] (the volume in its file), [`disk`] (words stored in a file), [`show`] (what a
-//! volume looks like), [`files`] (files of the host), [`arguments`], [`help`], [`failure`], [`progress`] and
-//! [`text`].
+//! The modules, top-down: [`commands`] (what each command does), [`store`] (the volume in its file), [`disk`] (words
+//! stored in a file), [`show`] (what a volume looks like), [`files`] (files of the host), [`arguments`], [`help`],
+//! [`failure`], [`progress`] and [`text`].
 //!
 //! # Example
 //!

@@ -5,7 +5,10 @@ mod tool;
 use office::commands::PART;
 use reference::layout::{tail_word, word, DIRECTORY};
 use reference::listing;
-use samples::{create, done, formatted, map_of, set_size, text, unlink, write};
+use samples::{
+    create, done, formatted, map_of, set_size, text, unlink, volumes_with_gaps, with_free_pages,
+    write,
+};
 use std::ffi::OsStr;
 use std::fs;
 use std::os::unix::ffi::OsStrExt;
@@ -416,6 +419,127 @@ fn map_and_log() {
 }
 
 #[test]
+fn gaps_of_a_fresh_volume() {
+    let folder = Folder::with_volume("gaps-fresh", 64, 16);
+    let text = "\
+free pages  length
+3-63            61
+
+longest: 61 pages, 3-63
+total: 61 free pages in 1 stretch
+";
+    folder.says(&["gaps", "v"], text);
+}
+
+/// Two stretches are the longest, and it is the first of them.
+#[test]
+fn gaps_of_several_stretches() {
+    let folder = Folder::new("gaps-several");
+    let free = |page| [4, 6, 7, 8, 12, 13, 14, 20].contains(&page);
+    folder.write("v", &with_free_pages(32, 8, free));
+    let text = "\
+free pages  length
+4                1
+6-8              3
+12-14            3
+20               1
+
+longest: 3 pages, 6-8
+total: 8 free pages in 4 stretches
+";
+    folder.says(&["gaps", "v"], text);
+    let map = String::from_utf8(folder.done(&["map", "v"])).expect("text");
+    let lines: Vec<&str> = map.lines().take(3).collect();
+    let drawn = [
+        "pages: # fixed, L log, D data, . free",
+        "       _ longest free stretch: 3 pages, 6-8",
+        " 0  ##DD.D__ _DDD...D DDDL.LLL LLLLLLLL",
+    ];
+    assert_eq!(lines, drawn);
+}
+
+#[test]
+fn gaps_that_commands_leave() {
+    let folder = with_files("gaps-left");
+    folder.done(&["rm", "v", "a"]);
+    let text = "\
+free pages  length
+4-6              3
+9-63            55
+
+longest: 55 pages, 9-63
+total: 58 free pages in 2 stretches
+";
+    folder.says(&["gaps", "v"], text);
+}
+
+#[test]
+fn gaps_of_one_page_and_of_none() {
+    let folder = Folder::new("gaps-full");
+    folder.write("v", &with_free_pages(16, 8, |page| page == 9));
+    let text = "\
+free pages  length
+9                1
+
+longest: 1 page, 9
+total: 1 free page in 1 stretch
+";
+    folder.says(&["gaps", "v"], text);
+    folder.write("v", &with_free_pages(16, 8, |_| false));
+    folder.says(&["gaps", "v"], "no page is free\n");
+    let map = String::from_utf8(folder.done(&["map", "v"])).expect("text");
+    assert!(map.starts_with("pages: # fixed, L log, D data, . free\n 0  ##DDDDDD LLLLLLLL\n"));
+    let svg = String::from_utf8(folder.done(&["map", "v", "--svg", "-"])).expect("text");
+    assert!(!svg.contains("stretch") && !svg.contains("<polygon"));
+}
+
+/// A volume of the most pages, every second of them free.
+#[test]
+fn as_many_gaps_as_can_be() {
+    let folder = Folder::new("gaps-most");
+    folder.write("v", &with_free_pages(4_096, 8, |page| page % 2 == 0));
+    let text = String::from_utf8(folder.done(&["gaps", "v"])).expect("text");
+    let lines: Vec<&str> = text.lines().collect();
+    assert_eq!(lines.len(), 1 + 2_047 + 3);
+    assert_eq!(lines[2_047], "4094             1");
+    let end = [
+        "",
+        "longest: 1 page, 2",
+        "total: 2047 free pages in 2047 stretches",
+    ];
+    assert_eq!(lines[2_048..], end);
+}
+
+/// The free pages that `gaps` adds up are those that `ls`, `check` and `map` count.
+#[test]
+fn gaps_add_up_to_the_free_pages() {
+    let folder = Folder::new("gaps-total");
+    for (way, volume) in volumes_with_gaps(40, 16) {
+        folder.write("v", &volume);
+        let says = |command: &str| {
+            let text = folder.done(&[command, "v"]);
+            String::from_utf8(text).expect("text")
+        };
+        let gaps = says("gaps");
+        let total = gaps.lines().last().expect("a line");
+        let free = match total.strip_prefix("total: ") {
+            Some(total) => total.split(' ').next().expect("a count"),
+            None => "0",
+        };
+        let first = format!(" free {free}");
+        let ls = says("ls");
+        assert!(
+            ls.lines().next().expect("a line").ends_with(&first),
+            "{way}"
+        );
+        let plural = if free == "1" { "" } else { "s" };
+        let counted = format!(", {free} free page{plural}, journal closed\n");
+        assert!(says("check").ends_with(&counted), "{way}");
+        assert!(says("map").ends_with(&format!(", {free} free\n")), "{way}");
+    }
+}
+
+#[test]
 fn reading_commands_change_nothing() {
     let folder = with_files("reading");
     let volume = folder.read("v");
@@ -426,6 +550,7 @@ fn reading_commands_change_nothing() {
         &["get", "v", "--all", "all"],
         &["check", "v"],
         &["map", "v"],
+        &["gaps", "v"],
         &["log", "v"],
     ] {
         folder.done(command);

@@ -134,11 +134,12 @@ fn refused_volumes() {
         (damaged, "refused 3 (damaged); 'office check v' says why"),
         (open, "refused 4 (journal open); run 'office recover v'"),
     ];
-    let commands: [&[&str]; 11] = [
+    let commands: [&[&str]; 12] = [
         &["put", "v", "a"],
         &["get", "v", "a"],
         &["get", "v", "--all", "all"],
         &["ls", "v"],
+        &["gaps", "v"],
         &["cat", "v", "a"],
         &["mv", "v", "a", "b"],
         &["ln", "v", "a", "b"],
@@ -194,6 +195,12 @@ fn wrong_use() {
         (&["help", "nothing"], "there is no command nothing"),
         (&["ls"], "ls: VOLUME is missing"),
         (&["ls", "v", "w"], "ls: too many arguments"),
+        (&["gaps"], "gaps: VOLUME is missing"),
+        (&["gaps", "v", "w"], "gaps: too many arguments"),
+        (
+            &["gaps", "v", "--svg", "-"],
+            "gaps: option --svg is unknown",
+        ),
         (&["cat", "v"], "cat: too few arguments"),
         (&["mv", "v", "a"], "mv: too few arguments"),
         (&["mv", "v", "a", "b", "c"], "mv: too many arguments"),
@@ -268,6 +275,7 @@ fn files_of_the_host() {
     let cases: &[(&[&str], &str)] = &[
         (&["ls", "gone"], &format!("gone: {missing}")),
         (&["check", "gone"], &format!("gone: {missing}")),
+        (&["gaps", "gone"], &format!("gone: {missing}")),
         (&["rm", "gone", "a"], &format!("gone: {missing}")),
         (&["ls", "."], ".: no regular file"),
         (&["ls", "/dev/null"], "/dev/null: no regular file"),
@@ -379,11 +387,12 @@ fn a_folder_in_the_way() {
 fn a_locked_volume() {
     let folder = with_file("locked");
     let line = "v: locked: another command is at work on it; try again when it has ended";
-    let reading: [&[&str]; 4] = [
+    let reading: [&[&str]; 5] = [
         &["ls", "v"],
         &["cat", "v", "a"],
         &["check", "v"],
         &["map", "v"],
+        &["gaps", "v"],
     ];
     let changing: [&[&str]; 8] = [
         &["put", "v", "b"],
@@ -487,6 +496,25 @@ fn help() {
             .chain(overview.lines())
             .all(|line| line.len() <= 100));
     }
+}
+
+#[test]
+fn help_says_which_of_several_is_the_longest() {
+    let folder = Folder::new("help-gaps");
+    let text = "\
+office gaps VOLUME
+
+Prints the pages and the length of each stretch of free pages, in page order and
+each as long as it can be; then the longest, and the total, which is the count of
+free pages that ls and check give. Where several stretches are equally long, the
+longest is the first of them.
+
+Example:
+  office gaps day.vol
+";
+    folder.says(&["help", "gaps"], text);
+    let map = String::from_utf8(folder.done(&["help", "map"])).expect("text");
+    assert!(map.contains("where several are equally long, the first of them"));
 }
 
 #[test]

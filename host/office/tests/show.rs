@@ -12,8 +12,9 @@ mod reasons;
 #[path = "show/texts.rs"]
 mod texts;
 
-use reference::cut;
+use reference::{cut, Use};
 use samples::{clean, create, done, filled, formatted, set_size, write};
+use std::ops::Range;
 
 /// The volumes of cases B, C, D and E.
 fn cases() -> [Vec<u8>; 4] {
@@ -36,4 +37,35 @@ fn case_j() -> Vec<u8> {
     let list = filled(&volume, &create(b"A1")).expect("the call is done");
     cut(&mut volume, &list, 2, |index| index == 66);
     volume
+}
+
+/// The stretches of free pages by the pages' uses: the first page and the length of each.
+fn stretches(uses: &[Use]) -> Vec<(u64, u64)> {
+    let mut stretches = Vec::new();
+    let mut first = 0;
+    for run in uses.chunk_by(|one, other| (*one == Use::Free) == (*other == Use::Free)) {
+        let length = run.len() as u64;
+        if run[0] == Use::Free {
+            stretches.push((first, length));
+        }
+        first += length;
+    }
+    stretches
+}
+
+/// The pages of the longest stretch, the first of several; none if no page is free.
+fn longest_stretch(uses: &[Use]) -> Range<u64> {
+    let stretches = stretches(uses).into_iter();
+    let longer = |one: (u64, u64), next: (u64, u64)| if next.1 > one.1 { next } else { one };
+    let (first, length) = stretches.reduce(longer).unwrap_or((0, 0));
+    first..first + length
+}
+
+/// How a longest stretch is said: its length and its pages.
+fn said(pages: &Range<u64>) -> String {
+    let (first, last) = (pages.start, pages.end - 1);
+    match pages.end - pages.start {
+        1 => format!("1 page, {first}"),
+        length => format!("{length} pages, {first}-{last}"),
+    }
 }

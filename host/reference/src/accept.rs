@@ -217,6 +217,19 @@ impl<'v> Volume<'v> {
         self.uses.iter().filter(|&&page| page == Use::Free).count() as u64
     }
 
+    /// The stretches of free pages, each as its first page and its length, by first page.
+    ///
+    /// A stretch begins at a free page behind one that is not free, and goes on while pages are free.
+    pub fn free_stretches(&self) -> Vec<(u64, u64)> {
+        let free = |page: usize| self.uses.get(page) == Some(&Use::Free);
+        let begins = |&page: &usize| free(page) && !free(page - 1);
+        let length = |first: usize| (first..).take_while(|&page| free(page)).count();
+        (1..self.uses.len()) // page 0 is never free
+            .filter(begins)
+            .map(|first| (first as u64, length(first) as u64))
+            .collect()
+    }
+
     /// Copies a file's bytes from `offset` on into the whole buffer; zeros stand where no page is
     /// mapped, and so from the size on.
     pub(crate) fn copy_file(&self, file: &File, offset: u64, buffer: &mut [u8]) {

@@ -1,6 +1,7 @@
-//! A plain reference implementation of the file store that document 01 describes.
+//! A plain reference implementation of the file store that document 01 describes, with order 1 of
+//! document 02.
 //!
-//! It was written from document 01 alone, to test other code against. It is meant to be read
+//! It was written from the papers alone, to test other code against. It is meant to be read
 //! top-down: [`layout`] (words, pages, sizes), the journal, the logs, the judgement of a volume and
 //! what it finds wrong ([`Fault`]), the free pages, store lists and power cuts, the changing calls,
 //! the reading calls, the file map.
@@ -59,7 +60,7 @@ pub use damage::{BadEntry, BadJournal, BadLog, BadNames, Damage, Fault, NoVolume
 pub use journal::{Journal, OpenEntry, Position};
 pub use log::{Entry, EntryBytes, File, Log, Placed};
 pub use map::{map, map_after, refused_by_map, FileMap};
-pub use reading::{find, free_count, kth_name, listing, read, size};
+pub use reading::{find, free_count, gaps, kth_name, listing, read, size};
 pub use refusal::{Answer, Refusal};
 pub use stores::{carry_out, cut, groups, land, Store, FENCE};
 pub use uses::Use;

@@ -1,4 +1,4 @@
-//! The reading calls: find, size, read, k-th name, count of free pages; and the listing.
+//! The reading calls: find, size, read, k-th name, count of free pages, gaps; and the listing.
 
 use crate::accept::{judge_closed, Volume};
 use crate::calls::{check_name, find_file, find_name};
@@ -48,6 +48,44 @@ pub fn kth_name(volume: &[u8], k: u64, buffer: &mut [u8]) -> Answer {
 /// Count of free pages. The refusals are 2, 3 and 4.
 pub fn free_count(volume: &[u8]) -> Answer {
     Ok(judge_closed(volume)?.free_pages())
+}
+
+/// Gaps: fills in the stretches of free pages, each as a pair of its first page and its length.
+///
+/// The pairs are sorted by first page, each is the longest stretch possible and none is there
+/// twice, so that the lengths add up to the count of free pages. The list is flat, `[first, length,
+/// first, length, ..]`: one of n words has room for n / 2 pairs, and an odd last word is never
+/// filled. Answers the count of pairs filled; later pairs keep their content. The refusals are 2, 3,
+/// 4 and 14, a list of fewer pairs than there are stretches.
+///
+/// ```
+/// use reference::{carry_out, clean, create, format, gaps, Refusal};
+///
+/// let mut volume = vec![0; 16 * 512];
+/// format(&mut volume, 16, 8)?;
+/// let mut pairs = [7; 6];
+/// assert_eq!(gaps(&volume, &mut pairs), Ok(1));
+/// assert_eq!(pairs, [2, 14, 7, 7, 7, 7]);
+///
+/// let mut list = vec![0; 4096];
+/// let count = create(&volume, b"A1", &mut list)?;
+/// carry_out(&mut volume, &list, count)?;
+/// let count = clean(&volume, 0, &mut list)?; // the directory's log goes from page 2 to page 3
+/// carry_out(&mut volume, &list, count)?;
+/// assert_eq!(gaps(&volume, &mut pairs), Ok(2));
+/// assert_eq!(pairs, [2, 1, 4, 12, 7, 7]);
+/// assert_eq!(gaps(&volume, &mut pairs[..3]), Err(Refusal::TooManyGaps));
+/// # Ok::<(), Refusal>(())
+/// ```
+pub fn gaps(volume: &[u8], pairs: &mut [u64]) -> Answer {
+    let stretches = judge_closed(volume)?.free_stretches();
+    if stretches.len() > pairs.len() / 2 {
+        return Err(Refusal::TooManyGaps);
+    }
+    for (pair, &(first, length)) in pairs.chunks_exact_mut(2).zip(&stretches) {
+        pair.copy_from_slice(&[first, length]);
+    }
+    Ok(stretches.len() as u64)
 }
 
 /// What the program volume-list prints for these bytes on standard input.

@@ -12,6 +12,7 @@ const REFERENCE: Library = Library {
     read: reference::read,
     kth_name: reference::kth_name,
     free_count: reference::free_count,
+    gaps: reference::gaps,
 };
 
 #[test]

@@ -22,7 +22,7 @@ struct Counts {
     landed: u64,
     cut: u64,
     left_open: u64,
-    refused: [u64; 14],
+    refused: [u64; 15],
 }
 
 impl History {
@@ -311,7 +311,7 @@ fn small_volumes() {
     for number in [4, 5, 6, 7, 8, 9, 10, 12] {
         assert!(total.refused[number] > 5, "{number}: {:?}", total.refused);
     }
-    for number in [1, 2, 3, 13] {
+    for number in [1, 2, 3, 13, 14] {
         assert_eq!(total.refused[number], 0);
     }
 }

@@ -4,7 +4,7 @@
 
 use reference::layout::{set_word, word};
 use reference::{
-    carry_out, cut, find, format, free_count, groups, judge, kth_name, land, listing, map,
+    carry_out, cut, find, format, free_count, gaps, groups, judge, kth_name, land, listing, map,
     map_after, read, refused_by_map, size, Answer, Call, Refusal, FENCE,
 };
 use samples::*;
@@ -109,6 +109,19 @@ fn reading_calls(random: &mut Random, volume: &[u8], refusal: Option<Refusal>) {
         let answer = kth_name(volume, k, &mut buffer);
         check(answer, &buffer);
         assert_eq!(buffer.get(32..), marked.get(32..));
+    }
+    let before = marked_list(random.below(12));
+    let mut pairs = before.clone();
+    match gaps(volume, &mut pairs) {
+        Ok(count) => {
+            assert_eq!(refusal, None);
+            let filled = 2 * count as usize;
+            assert_eq!(pairs[filled..], before[filled..]);
+        }
+        Err(actual) => {
+            assert_eq!(actual, refusal.unwrap_or(Refusal::TooManyGaps));
+            assert_eq!(pairs, before);
+        }
     }
     let lines = listing(volume);
     let refused = refusal.is_some() || volume.len() > 65_536;

@@ -3,8 +3,8 @@
 
 use reference::layout::{set_word, tail_word, word};
 use reference::{
-    carry_out, find, format, free_count, kth_name, listing, read, size, Answer, Call, Refusal,
-    FENCE,
+    carry_out, find, format, free_count, gaps, kth_name, listing, read, size, Answer, Call,
+    Refusal, FENCE,
 };
 use samples::*;
 
@@ -78,6 +78,7 @@ fn refused(volume: &[u8], call: &Call) -> u64 {
 fn readings(volume: &[u8]) -> Vec<Answer> {
     let marked = vec![0xA7; 40];
     let mut buffer = marked.clone();
+    let mut pairs = marked_list(20);
     let answers = vec![
         find(volume, b"/"),
         find(volume, b"A1"),
@@ -88,9 +89,16 @@ fn readings(volume: &[u8]) -> Vec<Answer> {
         kth_name(volume, u64::MAX, &mut buffer),
         kth_name(volume, 0, &mut buffer),
         free_count(volume),
+        gaps(volume, &mut []),
+        gaps(volume, &mut pairs),
     ];
     if answers.iter().all(Result::is_err) {
         assert_eq!(buffer, marked, "a refusal leaves the buffer as it was");
+        assert_eq!(
+            pairs,
+            marked_list(20),
+            "a refusal leaves the list as it was"
+        );
     }
     answers
 }
@@ -111,6 +119,7 @@ fn numbers_and_words() {
         (11, "directory full"),
         (12, "no space"),
         (13, "bad list"),
+        (14, "too many gaps"),
     ];
     let actual = Refusal::ALL.map(|refusal| (refusal.number(), refusal.word()));
     assert_eq!(actual, table);

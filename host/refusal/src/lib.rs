@@ -16,7 +16,8 @@ use std::fmt;
 /// What a call answers that answers a number: the number, or the refusal.
 pub type Answer = Result<u64, Refusal>;
 
-/// A refusal. It has no content but its number; of several that apply, the lowest is answered.
+/// A refusal. It has no content but its number; of several that apply, the lowest is answered, with 14 checked
+/// directly after 4.
 #[derive(Clone, Copy, Debug, PartialEq, Eq, PartialOrd, Ord, Hash)]
 pub enum Refusal {
     /// 1: the store list to be filled has under 4,096 words, or the name buffer under 32 bytes.
@@ -45,11 +46,13 @@ pub enum Refusal {
     NoSpace = 12,
     /// 13: carry out's list is not a store list for this volume.
     BadList = 13,
+    /// 14: the stretches of free pages exceed the list of pairs (document 02).
+    TooManyGaps = 14,
 }
 
 impl Refusal {
     /// All refusals, in the order of their numbers.
-    pub const ALL: [Refusal; 13] = [
+    pub const ALL: [Refusal; 14] = [
         Refusal::ShortMemory,
         Refusal::NoVolume,
         Refusal::Damaged,
@@ -63,9 +66,10 @@ impl Refusal {
         Refusal::DirectoryFull,
         Refusal::NoSpace,
         Refusal::BadList,
+        Refusal::TooManyGaps,
     ];
 
-    /// The refusal's number in document 01's table, 1 to 13.
+    /// The refusal's number in document 01's table, which the orders of document 02 lengthen: 1 to 14.
     pub fn number(self) -> u64 {
         self as u64
     }
@@ -77,7 +81,7 @@ impl Refusal {
             .find(|refusal| refusal.number() == number)
     }
 
-    /// The refusal's word in document 01's table.
+    /// The refusal's word in document 01's table; that of 14 is ours, since document 02 gives none.
     pub fn word(self) -> &'static str {
         match self {
             Refusal::ShortMemory => "short memory",
@@ -93,6 +97,7 @@ impl Refusal {
             Refusal::DirectoryFull => "directory full",
             Refusal::NoSpace => "no space",
             Refusal::BadList => "bad list",
+            Refusal::TooManyGaps => "too many gaps",
         }
     }
 }

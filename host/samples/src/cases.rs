@@ -24,6 +24,8 @@ pub struct Library {
     pub kth_name: fn(&[u8], u64, &mut [u8]) -> Answer,
     /// Count of free pages.
     pub free_count: fn(&[u8]) -> Answer,
+    /// Gaps.
+    pub gaps: fn(&[u8], &mut [u64]) -> Answer,
 }
 
 /// What comes before a row's call, on a volume just formatted with P = 16 and N = 8.
@@ -111,6 +113,11 @@ fn check_volume(library: &Library, case: &Case, volume: &[u8]) {
         assert_eq!(found, *values, "{name}: words from {first} on");
     }
     assert_eq!((library.free_count)(volume), Ok(case.free), "{name}");
+    let mut pairs = [0; 16];
+    let count = (library.gaps)(volume, &mut pairs).expect("16 pages have at most 7 stretches");
+    assert!(count <= case.free.min(7), "{name}");
+    let lengths: u64 = pairs.chunks(2).map(|pair| pair[1]).sum();
+    assert_eq!(lengths, case.free, "{name}: lengths of the gaps");
     for (k, (name, inode, bytes)) in case.names.iter().enumerate() {
         let mut padded = [7; 33];
         let mut expected = [0; 33];

@@ -1,8 +1,8 @@
 //! What the tests of the workspace share: volumes, calls and numbers.
 //!
 //! A test of the reference model and a test of the compiled calls take their volumes from the same
-//! makers: by hand ([`sample`], [`put_log`], [`DirectoryLog`]), by random calls and power cuts ([`used_volume`],
-//! [`any_call`]), put together at random ([`made_up`]), damaged ([`change_live_word`],
+//! makers: by hand ([`sample`], [`put_log`], [`DirectoryLog`], [`with_free_pages`]), by random calls and
+//! power cuts ([`used_volume`], [`any_call`]), put together at random ([`made_up`]), damaged ([`change_live_word`],
 //! [`flip_live_bit`]), and noise ([`headed_noise`]). What is random comes from a [`Random`] alone, so that a seed gives the same
 //! volumes again. Document 01's cases are rows of one table ([`cases()`]), for any library of the calls.
 //!
@@ -23,6 +23,7 @@ mod calls;
 mod cases;
 mod damage;
 mod directory_logs;
+mod gaps;
 mod made_up;
 mod noise;
 mod numbers;
@@ -42,6 +43,7 @@ pub use directory_logs::{
     nearly_same_names, size_of, varied_name, varied_names, DirectoryLog, MOST_DIFFERENT,
     MOST_ENTRIES, NOWHERE,
 };
+pub use gaps::{volumes_with_gaps, with_free_pages};
 pub use made_up::{made_up, made_up_sized};
 pub use noise::headed_noise;
 pub use numbers::{any_name, any_number, NUMBERS};

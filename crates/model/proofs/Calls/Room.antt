@@ -7,7 +7,7 @@ use Rattle.model.specs.Accept.{uses, free}
 use Rattle.model.specs.Calls.{Append, layPages, besides, lowestRun, runFrom, dataPages, freshPages, freshLog, noRoom}
 use Rattle.model.proofs.Tests.{by-bool, no, not-some, ands, or-false, cond-some}
 use Rattle.model.proofs.Lists.{allBelow-at, lowest-is, length-values, values-in, values-distinct, few-holds, few-length, few-distinct, has-getD, index-none, index-getD, count-none, count-once}
-use Rattle.model.proofs.Frame.Placed.{in-bounds}
+use Rattle.model.proofs.Frame.Placed.{in-bounds, zero-outside}
 
 -- n free pages, each once
 pub record Fresh (u : Mem) (P N : ℕ) (ls : List ℕ) (n : ℕ) : Type 0 where
@@ -28,6 +28,10 @@ module _ (u : Mem) (P N : ℕ) where
 
   pub free-bounds : (p : ℕ) → free u P N p ≡ true → (N / 8 < p) × (p < P)
   free-bounds p e = in-bounds P N p (free-in p e .0)
+
+  pub free-zero : free u P N 0 ≡ false
+  unfolding free
+  free-zero = rw (zero-outside P N)
 
   -- no page
   pub fresh-none : Fresh u P N [] 0

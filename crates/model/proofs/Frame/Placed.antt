@@ -1,5 +1,5 @@
 -- What the checks of sizes and entries give, entry by entry: a file's data pages are pages of the volume, and names lead to inodes.
-use Rattle.model.proofs.Prelude.{_≡_, refl, _⊎_, inl, inr, ℕ, _+_, _-_, _*_, _/_, _%_, _≤_, _<_, Bool, true, List, [], _∷_, arith, take, leb, ltb, eqb, eqb-true, ltb-true, leb-true, lt-ltb, ne-eqb}
+use Rattle.model.proofs.Prelude.{_≡_, refl, _⊎_, inl, inr, ℕ, _+_, _-_, _*_, _/_, _%_, _≤_, _<_, Bool, true, false, List, [], _∷_, arith, take, leb, ltb, eqb, eqb-true, ltb-true, leb-true, lt-ltb, le-ltb, ne-eqb}
 use Rattle.model.specs.Lists.{bit, all, foldl}
 use Rattle.model.specs.Words.{Mem, byteAt}
 use Rattle.model.specs.Layout.{sizesOk, inPages, filePages}
@@ -20,6 +20,10 @@ in-pages P N p h g = rw (lt-ltb _ _ h, lt-ltb _ _ g)
 pub in-bounds : (P N p : ℕ) → inPages P N p ≡ true → (N / 8 < p) × (p < P)
 unfolding inPages
 in-bounds P N p e = (ltb-true (N / 8) p (search ands), ltb-true p P (search ands))
+
+pub zero-outside : (P N : ℕ) → inPages P N 0 ≡ false
+unfolding inPages
+zero-outside P N = rw (le-ltb (N / 8) 0 (omega arith))
 
 -- each mapped file page is one of the 128, on a page of the volume
 abbrev pub Placed : ℕ → ℕ → File → Type 0

@@ -3,7 +3,7 @@
 use crate::compiled::fill;
 use crate::lent::Lent;
 use reference::{judge, map, Answer, Call, FENCE};
-use samples::{any_call, any_calls, any_name, any_number, Random};
+use samples::{any_call, any_calls, any_name, any_number, marked_list, Random};
 use std::collections::BTreeMap;
 use std::fmt::Arguments;
 
@@ -37,12 +37,16 @@ impl Counts {
 }
 
 /// The calls that read a volume.
-pub const READINGS: [&str; 5] = ["find", "size", "read", "kth_name", "free_count"];
+pub const READINGS: [&str; 6] = ["find", "size", "read", "kth_name", "free_count", "gaps"];
 
 /// The calls that fill a store list.
 pub const CHANGES: [&str; 8] = [
     "create", "link", "unlink", "rename", "write", "set_size", "clean", "recover",
 ];
+
+/// The longest volume, in bytes, and the most stretches for which gaps is compared with lists of every length.
+const SMALL: usize = 300 * 512;
+const FEW: u64 = 40;
 
 /// A changing call's name.
 fn name_of(call: &Call) -> &'static str {
@@ -119,6 +123,35 @@ impl<'a> Compared<'a> {
         let compiled = calls::free_count(self.volume.slice());
         let expected = reference::free_count(self.bytes);
         self.same("free_count", format_args!(""), compiled, expected);
+    }
+
+    /// Gaps, with lists of every length in words from none to two pairs more than needed; of a few lengths where
+    /// stretches are many or the volume is large, and where the volume is refused.
+    pub fn gaps(&mut self) {
+        let lengths = match reference::gaps(self.bytes, &mut [0; 4_096]) {
+            Ok(count) if count <= FEW && self.bytes.len() <= SMALL => (0..=2 * count + 4).collect(),
+            Ok(count) => {
+                let needed = 2 * count;
+                let mut few = vec![0, 1];
+                few.extend(needed.saturating_sub(2)..=needed + 2);
+                few
+            }
+            Err(_) => vec![0, 3],
+        };
+        for words in lengths {
+            self.gaps_into(words);
+        }
+    }
+
+    /// Gaps, into a list of so many words.
+    pub fn gaps_into(&mut self, words: u64) {
+        let before = marked_list(words);
+        let mut lent = Lent::new(&before, 0);
+        let mut copy = before;
+        let compiled = calls::gaps(self.volume.slice(), lent.slice_mut());
+        let expected = reference::gaps(self.bytes, &mut copy);
+        self.same("gaps", format_args!("{words} words"), compiled, expected);
+        assert!(lent.holds(&copy), "gaps({words} words) left other words");
     }
 
     /// Read, into a buffer that holds these bytes.
@@ -243,6 +276,7 @@ fn any_room(random: &mut Random) -> u64 {
 pub fn compare_readings(random: &mut Random, bytes: &[u8], counts: &mut Counts) {
     let mut compared = Compared::new(bytes, random.below(8) as usize, counts);
     compared.free_count();
+    compared.gaps();
     compared.find(&any_name(random));
     compared.size(any_number(random));
     compared.size(random.below(10));

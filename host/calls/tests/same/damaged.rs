@@ -39,6 +39,7 @@ fn grown_sample(open: bool) -> Vec<u8> {
 fn compare_a_few(bytes: &[u8], counts: &mut Counts) {
     let mut compared = Compared::new(bytes, 3, counts);
     compared.free_count();
+    compared.gaps();
     compared.find(b"A1");
     compared.find(b"C3");
     compared.size(2);

@@ -104,12 +104,13 @@ impl Logs {
         }
     }
 
-    /// Count of free pages, size and recover.
+    /// Count of free pages, gaps, size and recover.
     fn compare_files(&mut self, log: &DirectoryLog, volume: &[u8]) {
         let pages = volume.len() as u64 / 512;
         let mut compared = Compared::new(volume, 0, &mut self.counts);
         compared.free_count();
         assert_eq!(compared.answer(), Ok(log.free_pages(pages)));
+        compared.gaps();
         let files = log.files();
         for inode in [0, 1, 2, 5, 6, 8] {
             let size = match files.contains(&inode) {
@@ -153,6 +154,8 @@ impl Logs {
         let mut compared = Compared::new(volume, 0, &mut self.counts);
         let damaged = |answer: Answer| assert_eq!(answer, Err(Refusal::Damaged));
         compared.free_count();
+        damaged(compared.answer());
+        compared.gaps_into(0);
         damaged(compared.answer());
         for number in [0, 1, 224] {
             compared.kth_name(number, &[0x55; 33]);

@@ -13,6 +13,7 @@ fn made_up_volumes() {
     }
     counts.reached(&READINGS, &[0, 3, 4], 2_000);
     counts.reached(&["find"], &[5, 6], 2_000);
+    counts.reached(&["gaps"], &[14], 2_000);
     counts.reached(&["kth_name"], &[1, 6], 2_000);
     counts.reached(&["format"], &[0, 2], 2_000);
     counts.reached(&CHANGES, &[0, 1, 3], 200);

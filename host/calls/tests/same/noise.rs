@@ -63,6 +63,7 @@ fn headers_at_their_limits() {
                 }
                 let mut compared = Compared::new(&volume, 1, &mut counts);
                 compared.free_count();
+                compared.gaps();
                 compared.carry_out(&[3, 1, u64::MAX, 0], 4);
             }
         }
@@ -72,7 +73,7 @@ fn headers_at_their_limits() {
         set_word(&mut volume, 2, number);
         Compared::new(&volume, 2, &mut counts).free_count();
     }
-    counts.reached(&["free_count"], &[0, 2], 8);
+    counts.reached(&["free_count", "gaps"], &[0, 2], 8);
     counts.reached(&["format"], &[0, 2], 8);
 }
 
@@ -89,8 +90,9 @@ fn format_of_every_size() {
         let formatted = formatted(pages, inodes);
         let mut compared = Compared::new(&formatted, 0, &mut counts);
         compared.free_count();
+        compared.gaps();
         compared.kth_name(0, &[7; 32]);
     }
     counts.reached(&["format"], &[0, 2], 5);
-    counts.reached(&["free_count"], &[0], 5);
+    counts.reached(&["free_count", "gaps"], &[0], 5);
 }

@@ -16,6 +16,7 @@ fn three_hundred_names() {
         let volume = long_directory(standing);
         let mut compared = Compared::new(&volume, 0, &mut counts);
         compared.free_count();
+        compared.gaps();
         for number in (0..300).step_by(7).chain([222, 223, 224, 225, 299]) {
             compared.find(&numbered(number));
             compared.kth_name(number, &[0x55; 40]);
@@ -64,10 +65,11 @@ fn links_that_lead_anywhere() {
             set_word(&mut changed, page * 64 + 56, next);
             let mut compared = Compared::new(&changed, 0, &mut counts);
             compared.free_count();
+            compared.gaps();
             compared.size(1);
         }
     }
-    counts.reached(&["free_count", "size"], &[0, 3], 10);
+    counts.reached(&["free_count", "gaps", "size"], &[0, 3], 10);
 }
 
 /// A tail at every byte of a log's pages.
@@ -93,10 +95,11 @@ fn pages_that_meet() {
             put_log(&mut volume, 2, &[log], &[entry_write(1, data, 1, 1_024)]);
             let mut compared = Compared::new(&volume, 0, &mut counts);
             compared.free_count();
+            compared.gaps();
             compared.read(2, 500, &[0x55; 40]);
         }
     }
-    counts.reached(&["free_count"], &[0, 3], 10);
+    counts.reached(&["free_count", "gaps"], &[0, 3], 10);
 }
 
 /// A file of 65,536 bytes in 128 pages, read from every kind of place; then its size cut by one byte.

@@ -1,4 +1,4 @@
-//! `ls`, `map` and `log`: what the volume holds, as text.
+//! `ls`, `map`, `gaps` and `log`: what the volume holds, as text.
 
 use super::{inode, names_of, open};
 use crate::arguments::Arguments;
@@ -62,6 +62,14 @@ pub fn map(arguments: &Arguments) -> Outcome {
 fn width() -> usize {
     let columns = env::var("COLUMNS").ok();
     columns.and_then(|text| text.parse().ok()).unwrap_or(80)
+}
+
+/// Lists the stretches of free pages.
+pub fn gaps(arguments: &Arguments) -> Outcome {
+    let store = open(arguments)?;
+    let refused = |refusal| store.refused_whole(refusal);
+    let text = show::gaps_text(store.volume()).map_err(refused)?;
+    print(text.as_bytes())
 }
 
 /// Tells a log in words: a file's, or the directory's.

@@ -23,7 +23,7 @@ const REPLACE: Choice = Choice {
 };
 
 /// The commands, in the order in which the help lists them.
-pub static COMMANDS: [Command; 14] = [
+pub static COMMANDS: [Command; 15] = [
     Command {
         name: "format",
         forms: &["VOLUME [--pages P] [--inodes N] [--force]"],
@@ -239,8 +239,10 @@ why, with exit status 1.",
         forms: &["VOLUME [--svg FILE] [--force]"],
         summary: "draws the pages: fixed, free, log and data",
         text: "\
-Draws which page serves for what, and for which file. On a terminal each inode
-has a colour (not where NO_COLOR is set); COLUMNS is the width, else 80.",
+Draws which page serves for what, and for which file, and marks the longest
+stretch of free pages; where several are equally long, the first of them. On a
+terminal each inode has a colour (not where NO_COLOR is set); COLUMNS is the
+width, else 80.",
         options: &[
             Choice {
                 name: "--svg",
@@ -253,6 +255,21 @@ has a colour (not where NO_COLOR is set); COLUMNS is the width, else 80.",
         least: 1,
         most: 1,
         run: look::map,
+    },
+    Command {
+        name: "gaps",
+        forms: &["VOLUME"],
+        summary: "lists the stretches of free pages, the longest and the total",
+        text: "\
+Prints the pages and the length of each stretch of free pages, in page order and
+each as long as it can be; then the longest, and the total, which is the count of
+free pages that ls and check give. Where several stretches are equally long, the
+longest is the first of them.",
+        options: &[],
+        example: "office gaps day.vol",
+        least: 1,
+        most: 1,
+        run: look::gaps,
     },
     Command {
         name: "log",

@@ -1,7 +1,8 @@
 //! The map of the pages as text: a grid of cells, a table of the inodes, the totals.
 
 use super::colour;
-use super::pages::{inode_of, inodes, totals, Inode};
+use super::pages::{inode_of, inodes, pages, totals, Inode, Page};
+use super::stretch::{longest_of, Stretch};
 use super::table;
 use super::words::{put_back, quoted, ranges};
 use reference::{Use, Volume};
@@ -16,8 +17,9 @@ const GAP: &str = "  ";
 
 /// The whole text.
 pub(super) fn text(volume: &Volume<'_>, width: usize, colour: bool) -> String {
-    let mut lines = vec!["pages: # fixed, L log, D data, . free".to_string()];
-    lines.extend(grid(volume, width, colour));
+    let longest = longest_of(volume);
+    let mut lines = legend(longest);
+    lines.extend(grid(&pages(volume, longest), width, colour));
     lines.push(String::new());
     lines.extend(table(&inodes(volume), width, colour));
     lines.push(String::new());
@@ -27,12 +29,20 @@ pub(super) fn text(volume: &Volume<'_>, width: usize, colour: bool) -> String {
     lines.join("\n")
 }
 
+/// What the letters mean. The longest stretch of free pages, if there is one, has a line of its own, which says how
+/// long it is and where.
+fn legend(longest: Option<Stretch>) -> Vec<String> {
+    let mut lines = vec!["pages: # fixed, L log, D data, . free".to_string()];
+    lines.extend(longest.map(|stretch| format!("       _ {}", stretch.legend())));
+    lines
+}
+
 /// The rows of the grid, each starting with the number of its first page.
-fn grid(volume: &Volume<'_>, width: usize, colour: bool) -> Vec<String> {
-    let number_width = (volume.uses.len() - 1).to_string().len();
-    let count = row_pages(width, number_width);
-    let rows = (0..).step_by(count).zip(volume.uses.chunks(count));
-    rows.map(|(first, row): (usize, _)| {
+fn grid(pages: &[Page], width: usize, colour: bool) -> Vec<String> {
+    let number_width = (pages.len() - 1).to_string().len();
+    let rows = pages.chunks(row_pages(width, number_width));
+    rows.map(|row| {
+        let first = row[0].number;
         format!("{first:>number_width$}{GAP}{}", cells(row, colour))
     })
     .collect()
@@ -49,12 +59,12 @@ fn row_pages(width: usize, number_width: usize) -> usize {
 }
 
 /// The cells of a row, eight together; with colour, neighbours of one inode in one go.
-fn cells(row: &[Use], colour: bool) -> String {
+fn cells(row: &[Page], colour: bool) -> String {
     let together = row.chunks(TOGETHER).map(|part| {
-        let runs = part.chunk_by(|one, other| inode_of(*one) == inode_of(*other));
+        let runs = part.chunk_by(|one, other| inode_of(one.serves) == inode_of(other.serves));
         let painted = runs.map(|run| {
-            let letters: String = run.iter().map(|&page| letter(page)).collect();
-            match inode_of(run[0]) {
+            let letters: String = run.iter().map(letter).collect();
+            match inode_of(run[0].serves) {
                 Some(inode) if colour => paint(inode, &letters),
                 _ => letters,
             }
@@ -64,9 +74,10 @@ fn cells(row: &[Use], colour: bool) -> String {
     together.collect::<Vec<String>>().join(" ")
 }
 
-fn letter(page: Use) -> char {
-    match page {
+fn letter(page: &Page) -> char {
+    match page.serves {
         Use::Fixed => '#',
+        Use::Free if page.in_longest => '_',
         Use::Free => '.',
         Use::Log { .. } => 'L',
         Use::Data { .. } => 'D',

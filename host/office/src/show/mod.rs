@@ -1,9 +1,9 @@
-//! What a volume looks like: why it is refused, a map of its pages, the entries of a log.
+//! What a volume looks like: why it is refused, a map of its pages, its gaps, the entries of a log.
 //!
 //! Every function here takes the bytes of a volume, of any length and content, and answers a text.
-//! Nothing is stored. Whether a volume is accepted is always asked of the compiled calls; what the
-//! texts say is read by the reference model. Everything is read with the journal's open entries put
-//! back, and a text that does so says it.
+//! Nothing is stored. Whether a volume is accepted is always asked of the compiled calls, and so are
+//! the gaps; what the other texts say is read by the reference model, with the journal's open entries
+//! put back, and a text that does so says it.
 //!
 //! ```
 //! use calls::{carry_out, create, format, Refusal};
@@ -26,11 +26,13 @@
 //! ```
 
 mod colour;
+mod gaps;
 mod log;
 mod map;
 mod pages;
 mod picture;
 mod reason;
+mod stretch;
 mod table;
 mod words;
 
@@ -62,6 +64,9 @@ pub fn reason(volume: &[u8]) -> Option<String> {
 /// Draws the pages of a volume as text: a grid with one cell per page, a table of the valid inodes with
 /// their pages, and the totals.
 ///
+/// The longest stretch of free pages, the first if there are several, has a letter of its own, and the
+/// legend says how long it is and where; neither is there where no page is free.
+///
 /// The lines are at most `width` characters wide where names and page numbers allow; a row of the grid has
 /// 64 pages, or half as many until it fits, but at least 8. With `colour`, the cells of each inode and its
 /// number in the table have a background colour of their own (24-bit ANSI sequences). The refusals are 2
@@ -74,7 +79,8 @@ pub fn reason(volume: &[u8]) -> Option<String> {
 ///     office::show::map_text(&volume, 80, false).unwrap(),
 ///     "\
 /// pages: # fixed, L log, D data, . free
-///  0  ##...... ........
+///        _ longest free stretch: 14 pages, 2-15
+///  0  ##______ ________
 ///
 /// inode  names          size  log pages  data pages
 ///     0  the directory     -  -          -
@@ -90,19 +96,44 @@ pub fn map_text(volume: &[u8], width: usize, colour: bool) -> Result<String, Ref
 /// Draws the pages of a volume as a standalone SVG picture: a grid with one cell per page, coloured by
 /// inode, and a legend with the names.
 ///
-/// Each cell has a title that says its page and its use, which a browser shows under the pointer. The
-/// refusals are 2 ([`Refusal::NoVolume`]) and 3 ([`Refusal::Damaged`]); an open journal is put back, and the
-/// picture says so.
+/// Each cell has a title that says its page and its use, which a browser shows under the pointer. A dark
+/// outline marks the longest stretch of free pages (see [`map_text`]). The refusals are 2
+/// ([`Refusal::NoVolume`]) and 3 ([`Refusal::Damaged`]); an open journal is put back, and the picture says so.
 ///
 /// ```
 /// let mut volume = vec![0; 16 * 512];
 /// calls::format(&mut volume, 16, 8).unwrap();
 /// let picture = office::show::map_svg(&volume).unwrap();
 /// assert!(picture.contains("<title>page 0: fixed</title>"));
-/// assert!(picture.contains("<title>page 2: free</title>"));
+/// assert!(picture.contains("<title>page 2: free (longest stretch)</title>"));
+/// assert!(picture.contains("longest free stretch: 14 pages, 2-15"));
 /// ```
 pub fn map_svg(volume: &[u8]) -> Result<String, Refusal> {
     Ok(picture::svg(&accepted(volume)?))
+}
+
+/// The stretches of free pages of a volume, a line for each by first page, then the longest, the first if there
+/// are several, and the total; or that no page is free.
+///
+/// The stretches are those of `calls::gaps`. The refusals are 2 ([`Refusal::NoVolume`]), 3
+/// ([`Refusal::Damaged`]) and 4 ([`Refusal::JournalOpen`]).
+///
+/// ```
+/// let mut volume = vec![0; 16 * 512];
+/// calls::format(&mut volume, 16, 8).unwrap();
+/// assert_eq!(
+///     office::show::gaps_text(&volume).unwrap(),
+///     "\
+/// free pages  length
+/// 2-15            14
+///
+/// longest: 14 pages, 2-15
+/// total: 14 free pages in 1 stretch
+/// "
+/// );
+/// ```
+pub fn gaps_text(volume: &[u8]) -> Result<String, Refusal> {
+    Ok(gaps::text(&stretch::stretches(volume)?))
 }
 
 /// The log of a valid inode in words: a line about the inode, then one line per entry.

@@ -1,7 +1,29 @@
 //! What the pages of an accepted volume serve for, by page and by inode.
 
+use super::stretch::Stretch;
 use reference::layout::DIRECTORY;
 use reference::{Use, Volume};
+
+/// A page of a volume.
+pub(super) struct Page {
+    /// The page's number.
+    pub(super) number: u64,
+    /// What it serves for.
+    pub(super) serves: Use,
+    /// Whether it lies in the longest stretch of free pages.
+    pub(super) in_longest: bool,
+}
+
+/// The pages of a volume whose longest stretch of free pages is this one.
+pub(super) fn pages(volume: &Volume<'_>, longest: Option<Stretch>) -> Vec<Page> {
+    let uses = (0..).zip(&volume.uses);
+    let pages = uses.map(|(number, &serves)| Page {
+        number,
+        serves,
+        in_longest: longest.is_some_and(|stretch| stretch.has(number)),
+    });
+    pages.collect()
+}
 
 /// A valid inode and its pages.
 pub(super) struct Inode<'v> {

@@ -1,11 +1,15 @@
-//! The map of the pages as an SVG picture: a grid of cells coloured by inode, and a legend.
+//! The map of the pages as an SVG picture: a grid of cells coloured by inode, an outline around the longest stretch of
+//! free pages, and a legend.
 
 mod drawing;
 mod legend;
+mod outline;
 
-use super::pages::{inode_of, inodes, totals, use_text};
+use super::pages::{inode_of, inodes, pages, totals, use_text, Page};
+use super::stretch::longest_of;
 use super::words::put_back;
 use drawing::{Drawing, LETTER, LINE, MARGIN};
+use outline::outline;
 use reference::{Use, Volume};
 
 /// The space for the page numbers before the rows.
@@ -57,11 +61,15 @@ impl Grid {
 pub(super) fn svg(volume: &Volume<'_>) -> String {
     let grid = Grid::new(volume.uses.len());
     let inodes = inodes(volume);
+    let longest = longest_of(volume);
     let mut drawing = Drawing::default();
     let top = heading(&mut drawing, volume, &grid);
-    let top = legend::looks(&mut drawing, top);
-    let top = cells(&mut drawing, volume, &grid, top);
-    let bottom = legend::inodes(&mut drawing, &inodes, grid.width(), top);
+    let top = legend::looks(&mut drawing, longest, top);
+    let below = cells(&mut drawing, &pages(volume, longest), &grid, top);
+    if let Some(stretch) = longest {
+        outline(&mut drawing, &grid, stretch, top);
+    }
+    let bottom = legend::inodes(&mut drawing, &inodes, grid.width(), below);
     let colours = inodes.iter().map(|inode| inode.number);
     drawing.document(&totals(volume), colours, grid.width(), bottom)
 }
@@ -95,26 +103,34 @@ fn wrapped(text: &str, letters: usize) -> Vec<String> {
 }
 
 /// The cells of all pages, with the number of each row's first page.
-fn cells(drawing: &mut Drawing, volume: &Volume<'_>, grid: &Grid, top: usize) -> usize {
-    for (page, &serves) in volume.uses.iter().enumerate() {
-        let (x, y) = grid.place(page, top);
-        if page % grid.columns == 0 {
-            drawing.row_number((x - 6, y + grid.step / 2), page);
+fn cells(drawing: &mut Drawing, pages: &[Page], grid: &Grid, top: usize) -> usize {
+    for (number, page) in pages.iter().enumerate() {
+        let (x, y) = grid.place(number, top);
+        if number % grid.columns == 0 {
+            drawing.row_number((x - 6, y + grid.step / 2), number);
         }
-        cell(drawing, grid, page, serves, (x, y));
+        cell(drawing, grid, page, (x, y));
     }
-    grid.place(volume.uses.len() - 1, top).1 + grid.step + 14
+    grid.place(pages.len() - 1, top).1 + grid.step + 14
 }
 
 /// A page's cell: a square of the page's look, and the inode's number where there is room.
-fn cell(drawing: &mut Drawing, grid: &Grid, page: usize, serves: Use, place: (usize, usize)) {
-    let title = format!("page {page}: {}", use_text(serves));
-    drawing.group("cell", &title, |drawing| {
-        drawing.square(&look(serves), place, grid.side());
-        if let (true, Some(inode)) = (grid.numbered, inode_of(serves)) {
+fn cell(drawing: &mut Drawing, grid: &Grid, page: &Page, place: (usize, usize)) {
+    drawing.group("cell", &title(page), |drawing| {
+        drawing.square(&look(page.serves), place, grid.side());
+        if let (true, Some(inode)) = (grid.numbered, inode_of(page.serves)) {
             drawing.number(place, grid.side(), inode);
         }
     });
+}
+
+fn title(page: &Page) -> String {
+    let mark = if page.in_longest {
+        " (longest stretch)"
+    } else {
+        ""
+    };
+    format!("page {}: {}{mark}", page.number, use_text(page.serves))
 }
 
 /// The class of a page's square.

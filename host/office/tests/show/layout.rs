@@ -1,8 +1,9 @@
 //! How a map is laid out: rows that fit the width, long cells, colours.
 
+use crate::{longest_stretch, said};
 use office::show::map_text;
 use reference::{judge, Use};
-use samples::{entry_add, entry_write, formatted, made_up, put_log, Random};
+use samples::{entry_add, entry_write, formatted, made_up, put_log, volumes_with_gaps, Random};
 use std::collections::{BTreeMap, BTreeSet};
 
 /// A volume of 300 pages: inode 1 has every other page of many and several names.
@@ -34,7 +35,11 @@ fn rows_by_width() {
 /// Checks the grid against the pages' uses; answers how many pages its rows have.
 fn rows(volume: &[u8], width: usize) -> usize {
     let text = map_text(volume, width, false).unwrap();
-    let grid = text.lines().skip(1).take_while(|line| !line.is_empty());
+    let uses = judge(volume).unwrap().uses;
+    let legend = legend(&uses);
+    assert!(text.starts_with(&format!("{}\n", legend.join("\n"))));
+    let lines = text.lines().skip(legend.len());
+    let grid = lines.take_while(|line| !line.is_empty());
     let mut letters = String::new();
     let mut first_row = 0;
     for line in grid {
@@ -47,18 +52,44 @@ fn rows(volume: &[u8], width: usize) -> usize {
             first_row
         };
     }
-    let uses = judge(volume).unwrap().uses;
-    let expected: String = uses.iter().map(|&page| letter(page)).collect();
+    let longest = longest_stretch(&uses);
+    let pages = (0..).zip(&uses);
+    let expected: String = pages
+        .map(|(page, &serves)| letter(serves, longest.contains(&page)))
+        .collect();
     assert_eq!(letters, expected);
     first_row
 }
 
-fn letter(page: Use) -> char {
-    match page {
+/// The lines above the grid: the letters, and where a page is free the mark of the longest stretch.
+fn legend(uses: &[Use]) -> Vec<String> {
+    let mut lines = vec!["pages: # fixed, L log, D data, . free".to_string()];
+    let longest = longest_stretch(uses);
+    if !longest.is_empty() {
+        lines.push(format!("       _ longest free stretch: {}", said(&longest)));
+    }
+    lines
+}
+
+fn letter(serves: Use, longest: bool) -> char {
+    match serves {
         Use::Fixed => '#',
+        Use::Free if longest => '_',
         Use::Free => '.',
         Use::Log { .. } => 'L',
         Use::Data { .. } => 'D',
+    }
+}
+
+/// The mark in rows of every length, wherever the free pages lie.
+#[test]
+fn the_longest_stretch() {
+    for (pages, inodes) in [(16, 8), (90, 16), (1_000, 64)] {
+        for (_, volume) in volumes_with_gaps(pages, inodes) {
+            for width in [80, 40, 0] {
+                rows(&volume, width);
+            }
+        }
     }
 }
 
@@ -100,8 +131,8 @@ fn colours() {
         assert_eq!(stripped, plain);
         let lines: Vec<&[(char, String)]> = letters.split(|letter| letter.0 == '\n').collect();
         let colours = row_colours(&lines);
-        let cells = lines[1..].concat();
-        let cells = cells.iter().filter(|letter| "#.LD".contains(letter.0));
+        let cells = lines[legend(&judged.uses).len()..].concat();
+        let cells = cells.iter().filter(|letter| "#._LD".contains(letter.0));
         for (cell, &page) in cells.zip(&judged.uses) {
             let expected = match page {
                 Use::Fixed | Use::Free => "",

@@ -1,9 +1,9 @@
 //! Thousands of volumes: damaged, made up, noise, and reached by random calls and power cuts.
 
-use crate::{case_j, cases};
-use office::show::{log_text, map_text, reason};
-use reference::judge;
+use crate::{case_j, cases, longest_stretch, said, stretches};
+use office::show::{gaps_text, log_text, map_text, reason};
 use reference::layout::set_word;
+use reference::{judge, Volume};
 use refusal::Refusal;
 use samples::{
     any_call, change_live_word, filled, flip_live_bit, formatted, headed_noise, live_words,
@@ -130,10 +130,11 @@ fn texts_of_made_up_volumes() {
     }
 }
 
-/// Holds the log texts of every inode, and the map's totals, against the reference.
+/// Holds the log texts of every inode, the map's totals and the gaps against the reference.
 fn texts(volume: &[u8]) {
     let Ok(judged) = judge(volume) else {
         assert_eq!(map_text(volume, 80, true), Err(Refusal::Damaged));
+        assert_eq!(gaps_text(volume), Err(Refusal::Damaged));
         assert_eq!(log_text(volume, 0), Err(Refusal::Damaged));
         return;
     };
@@ -151,4 +152,35 @@ fn texts(volume: &[u8]) {
     let text = map_text(volume, 80, false).unwrap();
     let free = format!(", {} free", judged.free_pages());
     assert!(text.trim_end().ends_with(&free));
+    gaps(volume, &judged);
+}
+
+/// Holds the gaps, which are the compiled call's, against the uses that the reference finds.
+fn gaps(volume: &[u8], judged: &Volume<'_>) {
+    if judged.journal.is_open() {
+        assert_eq!(gaps_text(volume), Err(Refusal::JournalOpen));
+        return;
+    }
+    let text = gaps_text(volume).unwrap();
+    let stretches = stretches(&judged.uses);
+    if stretches.is_empty() {
+        assert_eq!(text, "no page is free\n");
+        return;
+    }
+    let lines: Vec<&str> = text.lines().collect();
+    let (table, end) = lines.split_at(1 + stretches.len());
+    assert_eq!(table[0], "free pages  length");
+    for (line, (first, length)) in table[1..].iter().zip(&stretches) {
+        let (pages, count) = line.split_once(' ').unwrap();
+        let last = pages.split_once('-').map_or(pages, |(_, last)| last);
+        assert!(pages.starts_with(&first.to_string()) && last == (first + length - 1).to_string());
+        assert_eq!(
+            (count.trim_start(), line.len()),
+            (length.to_string().as_str(), 18)
+        );
+    }
+    let longest = format!("longest: {}", said(&longest_stretch(&judged.uses)));
+    assert_eq!(end[..2], ["", &longest]);
+    let total = format!("total: {} free page", judged.free_pages());
+    assert!(end[2].starts_with(&total) && end.len() == 3);
 }

@@ -1,7 +1,7 @@
 //! Whole texts: the maps and logs of document 01's cases, and of volumes made by hand.
 
 use crate::{case_j, cases};
-use office::show::{log_text, map_svg, map_text};
+use office::show::{gaps_text, log_text, map_svg, map_text};
 use reference::layout::set_word;
 use refusal::Refusal;
 use samples::{done, entry_size, entry_write, formatted, link, put_log, sample, unlink};
@@ -11,7 +11,8 @@ fn maps_of_the_cases() {
     let [b, c, d, e] = cases();
     let expected = "\
 pages: # fixed, L log, D data, . free
- 0  ##L..... ........
+       _ longest free stretch: 13 pages, 3-15
+ 0  ##L_____ ________
 
 inode  names          size  log pages  data pages
     0  the directory     -  2          -
@@ -22,7 +23,8 @@ inode  names          size  log pages  data pages
     assert_eq!(map_text(&b, 80, false).unwrap(), expected);
     let expected = "\
 pages: # fixed, L log, D data, . free
- 0  ##LDDL.. ........
+       _ longest free stretch: 10 pages, 6-15
+ 0  ##LDDL__ ________
 
 inode  names          size  log pages  data pages
     0  the directory     -  2          -
@@ -33,7 +35,8 @@ inode  names          size  log pages  data pages
     assert_eq!(map_text(&c, 80, false).unwrap(), expected);
     let expected = "\
 pages: # fixed, L log, D data, . free
- 0  ##L..LD. ........
+       _ longest free stretch: 9 pages, 7-15
+ 0  ##L..LD_ ________
 
 inode  names          size  log pages  data pages
     0  the directory     -  2          -
@@ -44,7 +47,8 @@ inode  names          size  log pages  data pages
     assert_eq!(map_text(&d, 80, false).unwrap(), expected);
     let expected = "\
 pages: # fixed, L log, D data, . free
- 0  ##LL..D. ........
+       _ longest free stretch: 9 pages, 7-15
+ 0  ##LL..D_ ________
 
 inode  names          size  log pages  data pages
     0  the directory     -  2          -
@@ -53,6 +57,29 @@ inode  names          size  log pages  data pages
 16 pages: 2 fixed, 2 log, 1 data, 11 free
 ";
     assert_eq!(map_text(&e, 80, false).unwrap(), expected);
+}
+
+#[test]
+fn gaps_of_the_cases() {
+    let [b, c, d, e] = cases();
+    let one_stretch = |pages: &str, count: u64| {
+        let row = format!("{pages:<16}{count}");
+        let end =
+            format!("longest: {count} pages, {pages}\ntotal: {count} free pages in 1 stretch");
+        format!("free pages  length\n{row}\n\n{end}\n")
+    };
+    assert_eq!(gaps_text(&b).unwrap(), one_stretch("3-15", 13));
+    assert_eq!(gaps_text(&c).unwrap(), one_stretch("6-15", 10));
+    let expected = "\
+free pages  length
+3-4              2
+7-15             9
+
+longest: 9 pages, 7-15
+total: 11 free pages in 2 stretches
+";
+    assert_eq!(gaps_text(&d).unwrap(), expected);
+    assert_eq!(gaps_text(&e).unwrap(), expected.replace("3-4", "4-5"));
 }
 
 #[test]
@@ -95,7 +122,8 @@ fn an_open_journal() {
     let map = format!(
         "\
 pages: # fixed, L log, D data, . free
- 0  ##...... ........
+       _ longest free stretch: 14 pages, 2-15
+ 0  ##______ ________
 
 inode  names          size  log pages  data pages
     0  the directory     -  -          -
@@ -108,6 +136,7 @@ inode  names          size  log pages  data pages
     let log = format!("inode 0, directory, 0 names: empty log\n{line}\n");
     assert_eq!(log_text(&volume, 0).unwrap(), log);
     assert_eq!(log_text(&volume, 1), Err(Refusal::NotThere));
+    assert_eq!(gaps_text(&volume), Err(Refusal::JournalOpen));
     let picture = map_svg(&volume).unwrap();
     assert!(picture.contains("journal open; 2 entries are put back: word 66"));
     assert!(!map_svg(&formatted(16, 8)).unwrap().contains("journal"));
@@ -152,9 +181,10 @@ page 3, entry 4: remove \"A1\"
     assert_eq!(log_text(&volume, 0).unwrap(), expected);
     let expected = "\
 pages: # fixed, L log, D data, . free
+       _ longest free stretch: 5 pages, 13-17
  0  ###LLDDD
- 8  ....L...
-16  ..L.
+ 8  ....L___
+16  __L.
 
 inode  names               size  log pages  data pages
     0  the directory          -  3          -
@@ -177,6 +207,7 @@ fn refusals() {
     ] {
         assert_eq!(map_text(volume, 80, false), Err(refusal));
         assert_eq!(map_svg(volume), Err(refusal));
+        assert_eq!(gaps_text(volume), Err(refusal));
         assert_eq!(log_text(volume, 0), Err(refusal));
         assert_eq!(log_text(volume, 99), Err(refusal));
     }

@@ -19,6 +19,7 @@ text{font-family:'DejaVu Sans Mono',Menlo,Consolas,monospace;font-size:11px;fill
 .fixed{fill:#9aa0a6}
 .free{fill:#f4f5f6;stroke:#dfe2e5}
 .hatch{fill:url(#hatch)}
+.outline{fill:none;stroke:#000000;stroke-width:2}
 ";
 
 /// The dark lines that lie over log pages.
@@ -62,6 +63,14 @@ impl Drawing {
         if look.starts_with("log") {
             self.plain_square("hatch", place, side);
         }
+    }
+
+    /// A dark line through corners and back to the first, which print shows as well as a screen.
+    pub(super) fn outline(&mut self, corners: &[(usize, usize)]) {
+        let points: Vec<String> = corners.iter().map(|(x, y)| format!("{x},{y}")).collect();
+        let points = points.join(" ");
+        self.body += &svg::element("polygon", &[("class", &"outline"), ("points", &points)]);
+        self.body.push('\n');
     }
 
     fn plain_square(&mut self, class: &str, (x, y): (usize, usize), side: usize) {

@@ -2,16 +2,20 @@
 
 use super::drawing::{Drawing, LETTER, LINE, MARGIN};
 use crate::show::pages::Inode;
+use crate::show::stretch::Stretch;
 use crate::show::words::quoted_names;
 
 /// The side of a swatch, and the distance from its left edge to the text behind it.
 const SWATCH: usize = 14;
 const BEHIND_SWATCH: usize = 22;
+/// The distance from a swatch to the outline around it.
+const OUTLINE: usize = 1;
 /// The inodes stand in so many columns.
 const COLUMNS: usize = 2;
 
-/// What the four looks of a cell mean, in one line.
-pub(super) fn looks(drawing: &mut Drawing, top: usize) -> usize {
+/// What the four looks of a cell mean, in one line; in a second one, if a page is free, what the outline means, that is,
+/// how long the longest stretch is and where.
+pub(super) fn looks(drawing: &mut Drawing, longest: Option<Stretch>, mut top: usize) -> usize {
     let looks = [
         ("fixed", "fixed"),
         ("free", "free"),
@@ -22,6 +26,13 @@ pub(super) fn looks(drawing: &mut Drawing, top: usize) -> usize {
     for (look, meaning) in looks {
         swatch(drawing, look, (x, top), meaning);
         x += BEHIND_SWATCH + meaning.len() * LETTER + SWATCH;
+    }
+    if let Some(stretch) = longest {
+        top += LINE;
+        swatch(drawing, "free", (MARGIN, top), &stretch.legend());
+        let [left, upper] = [MARGIN, top].map(|edge| edge - OUTLINE);
+        let [right, lower] = [MARGIN, top].map(|edge| edge + SWATCH + OUTLINE);
+        drawing.outline(&[(left, upper), (right, upper), (right, lower), (left, lower)]);
     }
     top + LINE + 10
 }

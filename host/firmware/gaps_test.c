@@ -1,0 +1,66 @@
+/*
+ * Tests volume_gaps as a program in C calls it: the pairs, the words behind them, and each refusal, on a formatted volume and on one with
+ * two stretches of free pages.
+ * The last line is "passed" or "failed" with the count of checks; the exit status is 0 where all hold.
+ */
+#include "host_calls.h"
+
+#include <stdio.h>
+#include <string.h>
+
+enum { VOLUME_LEN = 16 * 512, LIST_WORDS = 4096, WORDS = 7, TOO_MANY_GAPS = -14 };
+
+static uint8_t volume[VOLUME_LEN];
+static uint64_t list[LIST_WORDS];
+static unsigned long checks, failures;
+
+/* Counts a check, and says what does not hold. */
+static void check(int holds, const char *what)
+{
+    checks++;
+    if (!holds) {
+        failures++;
+        printf("not ok: %s\n", what);
+    }
+}
+
+/* Makes the call with a list of so many words, and checks its answer, the first words of the list and that the others are kept. */
+static void gaps(const char *what, size_t words, int64_t answer, const uint64_t *filled)
+{
+    uint64_t pairs[WORDS], expected[WORDS];
+    size_t i;
+    for (i = 0; i < WORDS; i++)
+        pairs[i] = expected[i] = 1000 + i;
+    if (answer > 0)
+        memcpy(expected, filled, 2 * (size_t)answer * sizeof(uint64_t));
+    check(volume_gaps(volume, VOLUME_LEN, pairs, words) == answer, what);
+    check(memcmp(pairs, expected, sizeof pairs) == 0, what);
+}
+
+/* Carries out the list of a call that must have something to change. */
+static int landed(int64_t count)
+{
+    return count > 0 && volume_carry_out(volume, VOLUME_LEN, list, LIST_WORDS, (uint64_t)count) == 0;
+}
+
+int main(void)
+{
+    static const uint64_t one[] = {2, 14};
+    static const uint64_t two[] = {2, 1, 4, 12}; /* the directory's log goes from page 2 to page 3 */
+
+    gaps("no volume", WORDS, VOLUME_NO_VOLUME, NULL);
+    check(volume_format(volume, VOLUME_LEN, 16, 8) == 0, "format");
+    gaps("one stretch, a list of no words", 0, TOO_MANY_GAPS, NULL);
+    gaps("one stretch, a list of one word", 1, TOO_MANY_GAPS, NULL);
+    gaps("one stretch, a list of one pair", 2, 1, one);
+    gaps("one stretch, a longer list", WORDS, 1, one);
+    check(landed(volume_create(volume, VOLUME_LEN, (const uint8_t *)"A1", 2, list, LIST_WORDS)), "create");
+    check(landed(volume_clean(volume, VOLUME_LEN, 0, list, LIST_WORDS)), "clean");
+    gaps("two stretches, a list of three words", 3, TOO_MANY_GAPS, NULL);
+    gaps("two stretches, a list of two pairs", 4, 2, two);
+    gaps("two stretches, a longer list", WORDS, 2, two);
+    volume[64] = 16; /* the journal's dequeue position */
+    gaps("damaged, a list of no words", 0, VOLUME_DAMAGED, NULL);
+    printf("%s: %lu checks, %lu not ok\n", failures == 0 ? "passed" : "failed", checks, failures);
+    return failures != 0;
+}
