@@ -59,7 +59,9 @@ int main(void)
     gaps("two stretches, a list of three words", 3, TOO_MANY_GAPS, NULL);
     gaps("two stretches, a list of two pairs", 4, 2, two);
     gaps("two stretches, a longer list", WORDS, 2, two);
-    volume[64] = 16; /* the journal's dequeue position */
+    volume[64] = 2; /* the journal's dequeue position: the two entries of clean are open again */
+    gaps("journal open, a list of no words", 0, VOLUME_JOURNAL_OPEN, NULL);
+    volume[64] = 16; /* no position */
     gaps("damaged, a list of no words", 0, VOLUME_DAMAGED, NULL);
     printf("%s: %lu checks, %lu not ok\n", failures == 0 ? "passed" : "failed", checks, failures);
     return failures != 0;

@@ -36,7 +36,7 @@ module _ (f : ℕ → Bool) (P p : ℕ) where
             on = λ j k. by-eq j n (λ q. rw q (sym e ∙ not-false x z)) (λ q. y .on j (omega arith));
           }
 
--- Behind page s the lowest page of which f holds is p, or P where there is none.
+-- From page s on the lowest page of which f holds is p, or P where there is none.
 
 module _ (f : ℕ → Bool) (P : ℕ) where
   from-lowest : (t s p : ℕ) → t ≡ P - s → p ≡ orElse (lowest f t s) P

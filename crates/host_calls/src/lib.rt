@@ -1,6 +1,6 @@
-// The calls of crate volume for programs on the host: tests, benchmarks and the office's tools. Each has its answer as
-// one number: the call's number, 0 where it has none, or minus the number of the refusal. A slice is a pointer and then
-// a length in C:
+// The calls of crate volume for programs on the host: tests, benchmarks and the office's tools; gaps has its pairs as words,
+// by crate gaps. Each has its answer as one number: the call's number, 0 where it has none, or minus the number of the
+// refusal. A slice is a pointer and then a length in C:
 //     int64_t volume_format(uint8_t *volume, size_t volume_len, uint64_t pages, uint64_t inodes);
 //     int64_t volume_carry_out(uint8_t *volume, size_t volume_len, const uint64_t *list, size_t list_len, uint64_t count);
 //     int64_t volume_find(const uint8_t *volume, size_t volume_len, const uint8_t *name, size_t name_len);
@@ -105,7 +105,8 @@ pub extern "C" fn volume_free_count(volume: &[u8]) -> i64
 // Fills a list of words with the gaps, the longest stretches of free pages, by ascending first page: two words for each, its first page and
 // its length. Answers the count of gaps filled, or minus the number of the refusal: 2 no volume, 3 damaged, 4 journal open, 14 too many
 // gaps. The words behind the last pair keep their content, a last one that is none of a pair too, and of a refusal all words.
-// Example: of 16 pages just formatted with 8 inodes and three words it answers 1, and makes the first two words 2 and 14; with one word -14.
+// Example: of 16 pages just formatted with 8 inodes and three words it answers 1, and makes the first two words 2 and 14;
+// with one word -14.
 #[no_mangle]
 pub extern "C" fn volume_gaps(volume: &[u8], pairs: &mut [u64]) -> i64
     ensures { λ r. ⌜ (r ≡ codeOf (numbered (gapsAnswer (now (volume .entry)) (length (now (pairs .entry)) / 2))))

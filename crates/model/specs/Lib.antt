@@ -1,4 +1,4 @@
--- Document 01 as definitions, in reading order. docs/MODEL.md lays each sentence of it beside its definition.
+-- Document 01, and what is built of document 02, as definitions, in reading order. docs/MODEL.md lays each sentence beside its definition.
 pub mod Lists
 pub mod Stretches
 pub mod Words

@@ -227,8 +227,8 @@ CallsServed =
 
 -- Gaps (document 02, order 1), on an accepted volume; what is answered, where its journal is closed.
 
--- "sorted by first page, each pair the longest stretch possible and no stretch twice": each has a page at least, and ends before the page in
--- front of the next one
+-- "sorted by first page, each pair the longest stretch possible and no stretch twice": each has a page at least, and ends before the page
+-- in front of the next one
 abbrev pub Apart : List (ℕ × ℕ) → Type 0
 Apart [] = Unit {0}
 Apart (a ∷ []) = 1 ≤ a .1

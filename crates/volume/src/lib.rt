@@ -1,5 +1,5 @@
 // The sixteen calls of the file store. Each works from the lent volume v alone, takes any bytes and any numbers, and answers
-// what document 01 says; a refusal leaves every lent byte as it was. A call that changes files fills a lent store list and
+// what documents 01 and 02 say; a refusal leaves every lent byte as it was. A call that changes files fills a lent store list and
 // leaves the volume: carry_out stores it.
 ghost use mathlib.Core.Path.{_≡_};
 ghost use Rattle.model.specs.FileMap.{create, link, unlink, rename, write, setSize, clean, recover};

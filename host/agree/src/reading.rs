@@ -183,6 +183,10 @@ impl Reading {
                 sheet.ask(numbered(format!("gapsAnswer {v} {pairs}"), answer));
                 let left = format!("gapsWords {v} {}", term::numbers(list));
                 sheet.ask_of("list", listed(left, after));
+                let left = format!("gapsList (λ g. g) {v} {}", term::pairs(list));
+                let right = term::pairs(&lent);
+                let kind = "List (ℕ × ℕ)";
+                sheet.ask_of("pairs", Equation { kind, left, right });
             }
             Reading::Listing => {
                 let text = term::bytes(&listing(volume));

@@ -88,7 +88,7 @@ fn outcomes(refusals: &[u64]) -> Vec<Outcome> {
     all
 }
 
-/// The eight calls that fill a list.
+/// The eight calls that fill a store list.
 fn of_changing() -> Vec<Stratum> {
     let mut all = Vec::new();
     for kind in changing::Kind::ALL {

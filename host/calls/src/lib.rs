@@ -7,7 +7,7 @@
 //! A *volume* is a lent slice of bytes, and every call works from the volume alone. Slices may have any
 //! length and hold any bytes: every call returns, and a refusal leaves all lent memory as it was. A call
 //! keeps nothing between two calls, so calls on different volumes may run at the same time. The reading
-//! calls need about 64 KB of stack for their tables, the changing calls about 88 KB.
+//! calls need about 40 KB of stack for their tables, the changing calls up to 64 KB.
 //!
 //! A changing call other than [`format()`] leaves the volume alone and fills a lent *store list* of 4,096 words or
 //! more, which [`carry_out`] then stores. A program that stores a list by itself, group by group,

@@ -72,6 +72,7 @@ pub fn check_case(library: &Library, case: &Case) {
                 let list = filled_by(library, &volume, call).expect("the call before is done");
                 cut(&mut volume, &list, *group, |index| landed.contains(&index));
                 assert_eq!((library.free_count)(&volume), Err(Refusal::JournalOpen));
+                assert_eq!((library.gaps)(&volume, &mut []), Err(Refusal::JournalOpen));
             }
         }
     }

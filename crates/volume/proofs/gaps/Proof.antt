@@ -72,7 +72,8 @@ Pre =
 
 abbrev Post : Out 2 params result
 Post =
-    Written.Post 2 params result (Unit {0}) requires ensures pre-read (no-pin gaps.signature) (no-own (endedOf 2 params result)) post-read tt
+    Written.Post 2 params result (Unit {0}) requires ensures pre-read (no-pin gaps.signature) (no-own (endedOf 2 params result))
+    post-read tt
 
 -- where each local lives: marks alone have an address
 abbrev homes : List Home
@@ -85,12 +86,13 @@ module _ (κs : Lfts 2) (qs : Shares 2) where
   abbrev Inv : Mo (still κs qs atLoop) → Changed → Type 0
   Inv u c =
       let l = get 2 atLoop u .now in
-      Filling (map gapOf) (get 1 atLoop u .now) (get 3 atLoop u) (listed (get 1 atLoop u .now) (length l)) (get 5 atLoop u) (c .1) (c .2) (c .2) l (c .0)
+      Filling (map gapOf) (get 1 atLoop u .now) (get 3 atLoop u) (listed (get 1 atLoop u .now) (length l)) (get 5 atLoop u) (c .1) (c .2)
+      (c .2) l (c .0)
 
   abbrev μ : Mo (still κs qs atLoop) → Changed → ℕ
   μ u c = get 5 atLoop u - c .2
 
--- the numbers of a turn, in a list of k gaps of 16 bytes: i of them are filled, and l is the list now
+-- the numbers of a turn, in a list of k gaps of 16 bytes: i of them are filled, and l is the list's length now
 less : (i n : ℕ) → i < n → n - (i + 1) < n - i
 less i n h = omega arith
 
@@ -130,13 +132,19 @@ module _ {M : Type 1} (𝓤 : URA M) (H : Heap 𝓤) (A : Atoms 𝓤) (W : Given
                       λ q. (
                         (λ ks. filling-requires inv h),
                         λ g. (
-                          record { fits = place-fits (x .2) (length (x .0)) (length (a .1 .0 .now)) (filling-room inv h) (filling-length inv) (good .1 .0 .1) },
+                          record {
+                            fits = place-fits (x .2) (length (x .0)) (length (a .1 .0 .now)) (filling-room inv h)
+                                (filling-length inv) (good .1 .0 .1);
+                          },
                           (
                             tt,
                             (
                               (refl, refl, filling-room inv h),
                               (
-                                record { fits = next-fits (x .2) (length (x .0)) (length (a .1 .0 .now)) (filling-room inv h) (filling-length inv) (good .1 .0 .1) },
+                                record {
+                                  fits = next-fits (x .2) (length (x .0)) (length (a .1 .0 .now)) (filling-room inv h)
+                                      (filling-length inv) (good .1 .0 .1);
+                                },
                                 (
                                   c .1 - (x .2 + 1),
                                   less (x .2) (c .1) h,
@@ -162,7 +170,8 @@ pub gaps-spec : {M : Type 1} → statement M
 unfolding code.routine tablesOf
 gaps-spec {M} 𝓤 H 𝓜 𝓖 𝓡 =
     let w : World = record { M = M; 𝓤 = 𝓤; H = H; 𝓜 = 𝓜; 𝓖 = 𝓖; 𝓡 = 𝓡 } in
-    Written.close 2 params result (Unit {0}) requires ensures pre-read (no-pin gaps.signature) (no-own (endedOf 2 params result)) post-read w
+    Written.close 2 params result (Unit {0}) requires ensures pre-read (no-pin gaps.signature) (no-own (endedOf 2 params result))
+    post-read w
     code.env key.name code.function (code.unfolded 𝓤 H 𝓜 𝓡) (λ κs a g. tt)
     (λ κs. no-owns (endedOf 2 params result) (stays params) κs w)
     (λ κs a g x ws ft p q. top 𝓤 (all∗ w (pre-read κs a g .held w)))

@@ -172,8 +172,9 @@ fn gaps(volume: &[u8], judged: &Volume<'_>) {
     assert_eq!(table[0], "free pages  length");
     for (line, (first, length)) in table[1..].iter().zip(&stretches) {
         let (pages, count) = line.split_once(' ').unwrap();
-        let last = pages.split_once('-').map_or(pages, |(_, last)| last);
-        assert!(pages.starts_with(&first.to_string()) && last == (first + length - 1).to_string());
+        let (from, to) = pages.split_once('-').unwrap_or((pages, pages));
+        assert_eq!(from, first.to_string());
+        assert_eq!(to, (first + length - 1).to_string());
         assert_eq!(
             (count.trim_start(), line.len()),
             (length.to_string().as_str(), 18)
