@@ -113,12 +113,15 @@ module _ {M : Type 1} (𝓤 : URA M) (H : Heap 𝓤) (A : Atoms 𝓤) (W : Given
       (λ κs qs bs bd. body κs qs 𝓤 H A W 𝓣 bs judge-known count-known next-known (Inv κs qs) (μ κs qs) .1)
       Pre Post
       (λ κs qs a good pre bs p. (
+        -- `judge` requires marks that are all 0; j is what it gives
         (λ ks. refl),
         λ j. (
           refl,
           (
+            -- `count` requires nothing; c is what it gives
             (λ ks. tt),
             λ c. (
+              -- the loop starts with no gap filled
               (
                 (a .1 .0 .now, noGap, 0),
                 refl,
@@ -127,11 +130,14 @@ module _ {M : Type 1} (𝓤 : URA M) (H : Heap 𝓤) (A : Atoms 𝓤) (W : Given
               λ x inv. (
                 tt,
                 (
+                  -- a turn, from the list, the gap and the i of x
                   (λ t.
                       let h : x .2 < c .1 = ltb-true (x .2) (c .1) t in
                       λ q. (
+                        -- what `next_gap` requires; g is what it gives
                         (λ ks. filling-requires inv h),
                         λ g. (
+                          -- 16 * i fits, list[i] is inside, i + 1 fits
                           record {
                             fits = place-fits (x .2) (length (x .0)) (length (a .1 .0 .now)) (filling-room inv h)
                                 (filling-length inv) (good .1 .0 .1);
@@ -145,6 +151,7 @@ module _ {M : Type 1} (𝓤 : URA M) (H : Heap 𝓤) (A : Atoms 𝓤) (W : Given
                                   fits = next-fits (x .2) (length (x .0)) (length (a .1 .0 .now)) (filling-room inv h)
                                       (filling-length inv) (good .1 .0 .1);
                                 },
+                                -- fewer gaps are left, and the invariant holds again
                                 (
                                   c .1 - (x .2 + 1),
                                   less (x .2) (c .1) h,
@@ -155,6 +162,7 @@ module _ {M : Type 1} (𝓤 : URA M) (H : Heap 𝓤) (A : Atoms 𝓤) (W : Given
                           ),
                         ),
                       )),
+                  -- behind the loop: the list is as long as it was, and the contract holds
                   (λ t. (
                     (refl, (fix-len (a .1 .0 .ptr) (a .1 .0 .name) (x .0) (a .1 .0 .now) (filling-length inv), tt)),
                     (j .5 .answer, filling-end inv (ltb-false (x .2) (c .1) t) refl),

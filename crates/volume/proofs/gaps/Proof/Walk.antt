@@ -204,10 +204,12 @@ module _ (κs : Lfts 2) (qs : Shares 2) where
     ending = (
       _,
       then
+          -- what is answered = answer
           (t-val-copy 𝓤 H A W E 𝓣 (λ ρ. Unit) _ 4 0 answer AnswerLaws.mir AnswerLaws.mir (whole answer) (whole answer) (λ x. x) (λ x. x)
           (λ x. x)
           refl (told-none 𝓤 H A _) answer-copied (room-gone 𝓤 H A AnswerLaws.mir)
           (makes-mem 𝓤 H A W (λ ρ. Unit) answer refl (whole answer) (λ x. x) (λ ρ t. whole-mem 𝓤 H A W answer ρ)) refl refl)
+          -- marks, answer, n, gap and i are let go
           (between (g-room 𝓤 H A W E _ 3 bytesTy (room-arr 𝓤 H A W u8 4096 0 4096 refl))
           (between (g-room 𝓤 H A W E _ 4 AnswerLaws.mir (room-whole 𝓤 H A W answer AnswerLaws.mir refl))
           (between (g-room 𝓤 H A W E _ 5 word (room-sc 𝓤 H A W (sInt w64)))
@@ -221,6 +223,7 @@ module _ (κs : Lfts 2) (qs : Shares 2) where
     turn = (
       _,
       then
+          -- while i < n
           (t-op2 𝓤 H A W E 𝓣 _ (lt unsigned) (oAt 7 word (valS (sInt w64))) (oAt 5 word (valS (sInt w64))) 10 (sc-here sBool) tyBool
           (valS sBool)
           (sBool .of) (reads-sc 𝓤 H A W (sInt w64), refl) (reads-sc 𝓤 H A W (sInt w64), refl) (room-gone 𝓤 H A tyBool)
@@ -230,6 +233,7 @@ module _ (κs : Lfts 2) (qs : Shares 2) where
           (t-cond 𝓤 H A W E 𝓣 _ 10 (λ x. x) _ _ inTurn _ _ (reads-sc 𝓤 H A W sBool) refl
           (between (g-room 𝓤 H A W E _ 10 tyBool (room-sc 𝓤 H A W sBool)) (t-skip 𝓤 H A W 𝓣 E inTurn tt))
           (between (g-room 𝓤 H A W E _ 10 tyBool (room-sc 𝓤 H A W sBool)) (t-exit 𝓤 H A W 𝓣 E 1 inTurn tt)))
+          -- gap = gaps::next_gap(v, &marks, gap); the loan ends behind it
           (between (g-begin 𝓤 H A W E _ 3 (tt, (tt, (tt, (tt, (tt, (tt, (tt, (tt, (tt, (tt, (tt, (tt, (tt, (tt, tt)))))))))))))))
           (then (t-sc-share 𝓤 H A W E 𝓣 _ 3 11 3 bytes seenTy (λ x. x) (mem-arr 𝓤 H A W u8 4096) (room-gone 𝓤 H A seenTy) refl (λ b o. tt))
           (then
@@ -251,6 +255,7 @@ module _ (κs : Lfts 2) (qs : Shares 2) where
           (home-of 𝓤 H A marks bytes (λ x. x) (λ x. x) (arr-mem 𝓤 H A W u8 4096 tt) (λ x k. refl)) refl)
           (between (g-forget 𝓤 H A W E _ 3 dead refl)
           (then
+          -- list[i] = gap: its place, 16 bytes for each gap, and the store
           (t-op2 𝓤 H A W E 𝓣 _ (mul unsigned) (oAt 7 word (valS (sInt w64))) (oInt w64 _) 12 number word (valS (sInt w64)) (sInt w64 .of)
           (reads-sc 𝓤 H A W (sInt w64), refl) tt (room-gone 𝓤 H A word) (holds-sc 𝓤 H A W (sInt w64)) refl (λ u. refl) (λ u. tt))
           (then
@@ -263,6 +268,7 @@ module _ (κs : Lfts 2) (qs : Shares 2) where
           (lease (κs .1 .0) (qs .1 .0)) GapLaws.mir GapLaws.mir (whole gap) (bySize 16) (λ u. get 7 atStore u) (λ x. x) (λ x. x) (λ x. x)
           (λ x. x)
           (λ i o. at-mul o 16 i) refl refl (told-none 𝓤 H A _) (as-is 𝓤 H A list) (as-is 𝓤 H A (sc-here sPtr)) gap-copied refl tt refl refl)
+          -- i = i + 1
           (between (g-room 𝓤 H A W E _ 12 word (room-sc 𝓤 H A W (sInt w64)))
           (between (g-room 𝓤 H A W E _ 13 tyPtr (room-sc 𝓤 H A W sPtr))
           (s-typed 𝓤 H A W 𝓣 E _ _ turning _ tt
@@ -277,11 +283,13 @@ module _ (κs : Lfts 2) (qs : Shares 2) where
       body = (
         _,
         then
+            -- let mut marks = [0u8; 4096]
             (t-repeat 𝓤 H A W E 𝓣 u8 (uint-lawful 𝓤 H A W w8) (cRf (fInt w8) .copy 𝓤 H A W) (uint-makes 𝓤 H A W w8) 4096 _ 3 (oInt w8 0)
             (λ m. 0)
             (room-gone 𝓤 H A bytesTy) tt refl (λ m wa. (refl, lit< tt)))
             (between (g-as-by 𝓤 H A W E (λ ρ. Unit) _ 3 marks (λ x. x) (told-none 𝓤 H A _) (λ ρ t. whole-arr 𝓤 H A W u8 4096 tt ρ))
             (then
+            -- let answer = gaps::judge(v, list.len(), &mut marks); the loan ends behind it
             (t-use 𝓤 H A W E 𝓣 _ (oFld 2 (field 1 ∷ []) word 8 lenV) 8 number word (valS (sInt w64)) (sInt w64 .of)
             (reads-mslice-len 𝓤 H A W gap listTy 1 8 refl, refl) (room-gone 𝓤 H A word) (holds-sc 𝓤 H A W (sInt w64)) refl (λ u. refl)
             (λ u. tt))
@@ -305,19 +313,23 @@ module _ (κs : Lfts 2) (qs : Shares 2) where
             (as-is 𝓤 H A (sc-owed bytes 2)) (arr-mem 𝓤 H A W u8 4096 tt) refl)
             (between (g-forget 𝓤 H A W E _ 2 dead refl)
             (then
+            -- let n = gaps::count(answer)
             (t-call-plain 𝓤 H A W 𝓣 0 count.ps count.r count-reads.Asked count-reads.Learnt count-def.name count-known E (λ n β. β) _
             (record { pos = 4; st = []; d = 0; at = λ x. x }, tt) 5 [] (sub-id 𝓤 H A W _) ((answer-copied, refl), tt)
             (room-gone 𝓤 H A word) tt refl)
             (then
+            -- let mut gap = Gap { first: 0, length: 0 }
             (t-struct-make 𝓤 H A W E 𝓣 (apartT Gap.the-type) GapLaws.the-laws GapLaws.the-plain _ 6 (oInt w64 _ ∷ oInt w64 _ ∷ [])
             (λ m. (_, (_, tt)))
             (room-gone 𝓤 H A GapLaws.mir) (tt, (tt, tt)) refl (λ u. refl)
             (λ m. is-wt (apartT Gap.the-type) GapLaws.the-laws (u64-wt, (u64-wt, tt)) (_, (_, tt))))
             (then
+            -- let mut i: usize = 0
             (t-use 𝓤 H A W E 𝓣 _ (oInt w64 _) 7 number word (valS (sInt w64)) (sInt w64 .of) tt (room-gone 𝓤 H A word)
             (holds-sc 𝓤 H A W (sInt w64))
             refl (λ u. refl) (λ u. tt))
             (between
+            -- the loop, and what stands behind it; the gap is a whole by then
             (g-as-by 𝓤 H A W E (λ ρ. Unit) _ 6 (whole gap) (λ v. Gap.struct .make v tt) (told-none 𝓤 H A _)
             (λ ρ t v b. folds 𝓤 H A Gap.the-type (Gap.struct .Ghost) (Gap.struct .make) (λ v g. refl) ρ v tt b))
             (t-seq 𝓤 H A W 𝓣 E _ (still atLoop) _ _ returning _ _
