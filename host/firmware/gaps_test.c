@@ -3,26 +3,15 @@
  * two stretches of free pages.
  * The last line is "passed" or "failed" with the count of checks; the exit status is 0 where all hold.
  */
+#include "check.h"
 #include "host_calls.h"
 
-#include <stdio.h>
 #include <string.h>
 
 enum { VOLUME_LEN = 16 * 512, LIST_WORDS = 4096, WORDS = 7, TOO_MANY_GAPS = -14 };
 
 static uint8_t volume[VOLUME_LEN];
 static uint64_t list[LIST_WORDS];
-static unsigned long checks, failures;
-
-/* Counts a check, and says what does not hold. */
-static void check(int holds, const char *what)
-{
-    checks++;
-    if (!holds) {
-        failures++;
-        printf("not ok: %s\n", what);
-    }
-}
 
 /* Makes the call with a list of so many words, and checks its answer, the first words of the list and that the others are kept. */
 static void gaps(const char *what, size_t words, int64_t answer, const uint64_t *filled)
@@ -63,6 +52,5 @@ int main(void)
     gaps("journal open, a list of no words", 0, VOLUME_JOURNAL_OPEN, NULL);
     volume[64] = 16; /* no position */
     gaps("damaged, a list of no words", 0, VOLUME_DAMAGED, NULL);
-    printf("%s: %lu checks, %lu not ok\n", failures == 0 ? "passed" : "failed", checks, failures);
-    return failures != 0;
+    return ended();
 }

@@ -4,10 +4,10 @@
  * Lists that no call fills must be refused and store nothing.
  * The last line is "passed" or "failed" with the count of checks; the exit status is 0 where all hold.
  */
+#include "check.h"
 #include "host_calls.h"
 #include "store_list.h"
 
-#include <stdio.h>
 #include <string.h>
 
 enum { WORDS = 64 * 64, LINE_WORDS = 8, LIST_WORDS = 4096 };
@@ -17,17 +17,6 @@ static uint64_t persistent[WORDS]; /* what is written back */
 static uint64_t expected[WORDS];   /* what volume_carry_out makes of the list up to a fence */
 static uint64_t list[LIST_WORDS];
 static size_t at_fence; /* the words of the list up to the last fence */
-static unsigned long checks, failures;
-
-/* Counts a check, and says what does not hold. */
-static void check(int holds, const char *what)
-{
-    checks++;
-    if (!holds) {
-        failures++;
-        printf("not ok: %s\n", what);
-    }
-}
 
 /* The board's write_back: the line that holds this address. */
 static void write_back(const volatile void *address)
@@ -111,6 +100,5 @@ int main(void)
 {
     calls_on_a_board();
     wrong_lists();
-    printf("%s: %lu checks, %lu not ok\n", failures == 0 ? "passed" : "failed", checks, failures);
-    return failures != 0;
+    return ended();
 }

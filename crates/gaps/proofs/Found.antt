@@ -8,7 +8,7 @@ use Rattle.model.proofs.Frame.Placed.{zero-outside}
 use Rattle.model.proofs.State.Stretches.{stretches-length}
 use Rattle.model.proofs.State.Gaps.{pairs-none, pairs-skip, pairs-next}
 use Rattle.marks.specs.Marks.{unmarked}
-use Rattle.gaps.specs.Gaps.{Unmarked, gapEnd, gapsLeft, gapsFrom, Follows}
+use Rattle.gaps.specs.Gaps.{Runs, gapEnd, gapsLeft, gapsFrom, Follows}
 use Rattle.gaps.specs.declared.Gap.{Gap}
 
 -- The loop of `run_length`: f holds of n numbers from p on. x says whether it holds of the next one.
@@ -22,11 +22,11 @@ module _ (f : ℕ → Bool) (P p : ℕ) where
   running-none h = record { to = omega arith; on = λ j l. absurd (omega arith) }
 
   module _ (n : ℕ) (y : Running f P p n) where
-    pub run-end : P ≤ p + n → Unmarked f P p n
+    pub run-end : P ≤ p + n → Runs f P p n
     run-end h = record { to = y .to; on = y .on; longest = λ l. absurd (omega arith) }
 
     module _ (x : Bool) (e : x ≡ f (p + n)) where
-      pub run-stopped : not x ≡ true → Unmarked f P p n
+      pub run-stopped : not x ≡ true → Runs f P p n
       run-stopped z = record { to = y .to; on = y .on; longest = λ l. sym e ∙ not-true x z }
 
       pub running-next : p + n < P → not x ≡ false → Running f P p (n + 1)
@@ -55,7 +55,7 @@ none-first b P N = rw (zero-outside P N)
 
 -- `next_gap`: P and N are the sizes, p is what `next_free` answered, and c what `run_length` did.
 pub follows : (v b : List ℕ) (g : Gap) (P N p c : ℕ) → P ≡ word v 0 → N ≡ word v 1
-    → p ≡ orElse (lowest (unmarked b P N) (P - gapEnd g) (gapEnd g)) P → Unmarked (unmarked b P N) P p c
+    → p ≡ orElse (lowest (unmarked b P N) (P - gapEnd g) (gapEnd g)) P → Runs (unmarked b P N) P p c
     → Follows v b g (record { first = p; length = c })
 follows v b g P N p c h k e u =
     let f = unmarked b P N in

@@ -17,7 +17,7 @@ use Rattle.answer.specs.declared.Answer.{Answer}
 use Rattle.gaps.specs.declared.Gap.{Gap}
 
 -- f holds of the c numbers from p on, and not of the next one below n
-pub record Unmarked (f : ℕ → Bool) (n p c : ℕ) : Type 0 where
+pub record Runs (f : ℕ → Bool) (n p c : ℕ) : Type 0 where
   pub to : p + c ≤ n
   pub on : (j : ℕ) → j < c → f (p + j) ≡ true
   pub longest : p + c < n → f (p + c) ≡ false

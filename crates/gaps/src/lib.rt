@@ -6,7 +6,7 @@ ghost use Rattle.model.specs.Words.{word};
 ghost use Rattle.model.specs.Public.{gapsAnswer, gapsWords};
 ghost use Rattle.marks.specs.Marks.{unmarked};
 ghost use Rattle.answer.specs.Meaning.{meaning, numbered};
-ghost use Rattle.gaps.specs.Gaps.{Unmarked, gapsLeft, Follows, counted, Judged};
+ghost use Rattle.gaps.specs.Gaps.{Runs, gapsLeft, Follows, counted, Judged};
 use answer::Answer;
 use layout::Sizes;
 
@@ -22,7 +22,7 @@ pub struct Gap {
 // 0 and run_length(marks, sizes, 5) 11.
 fn run_length(marks: &[u8; 4096], sizes: Sizes, p: usize) -> usize
     requires { ⌜ (p ≤ sizes .pages) × (sizes .pages ≤ 4096) ⌝ }
-    ensures { λ r. ⌜ Unmarked (unmarked (now (marks .entry)) (sizes .pages) (sizes .inodes)) (sizes .pages) p r ⌝ }
+    ensures { λ r. ⌜ Runs (unmarked (now (marks .entry)) (sizes .pages) (sizes .inodes)) (sizes .pages) p r ⌝ }
 {
     let pages = sizes.pages;
     let mut n: usize = 0;

@@ -70,6 +70,19 @@ fn any_set_of_pages() {
     counts.reached(&["gaps"], &[0, 3, 4, 14], 500);
 }
 
+/// Many stretches, with lists of every length from none to two pairs more than needed.
+#[test]
+fn every_length_of_many_stretches() {
+    let mut counts = Counts::default();
+    let volume = with_free_pages(600, 8, |page| page % 2 == 0);
+    let mut compared = Compared::new(&volume, 0, &mut counts);
+    for words in 0..=602 {
+        compared.gaps_into(words);
+    }
+    assert_eq!(compared.answer(), Ok(299));
+    counts.reached(&["gaps"], &[0, 14], 5);
+}
+
 /// The most stretches that a volume can have, 2,047, with lists of a few lengths.
 #[test]
 fn the_most_stretches() {
