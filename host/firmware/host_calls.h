@@ -2,8 +2,8 @@
  * The calls of libhost_calls.a, for the tests in this folder. crates/host_calls/src/lib.rt says what each answers; find, size and read are
  * those of include/volume.h.
  *
- * Memory that a call stores in (the volume of format and carry_out, a buffer, a list to be filled) overlaps no other memory that it is lent.
- * A list starts at a multiple of 8, as a uint64_t does; the bytes of a volume and of names may start anywhere.
+ * Memory that a call stores in (the volume of format and carry_out, a buffer, a list to be filled) overlaps no other memory that it is
+ * lent. A list starts at a multiple of 8, as a uint64_t does; the bytes of a volume and of names may start anywhere.
  *
  * The pairs of volume_gaps are flat, first page and length by turns: pairs_len words have room for pairs_len / 2 pairs. Where the stretches
  * of free pages are more, it answers -14, too many gaps.

@@ -9,7 +9,8 @@ use Rattle.model.specs.Answer.{refused, done, Nothing, mapAnswer, shortMemory, 
 use Rattle.model.specs.Answer.{taken, longWrite, pastTheEnd, noInode, directoryFull, noSpace, badList, tooManyGaps}
 use Rattle.answer.specs.declared.Answer.{Answer}
 use Rattle.answer.specs.declared.Answer.the-variants.{Done, Number, ShortMemory, NoVolume, Damaged, JournalOpen, BadName, NotThere}
-use Rattle.answer.specs.declared.Answer.the-variants.{Taken, LongWrite, PastTheEnd, NoInode, DirectoryFull, NoSpace, BadList, TooManyGaps}
+use Rattle.answer.specs.declared.Answer.the-variants.{Taken, LongWrite, PastTheEnd, NoInode, DirectoryFull, NoSpace, BadList}
+use Rattle.answer.specs.declared.Answer.the-variants.{TooManyGaps}
 
 -- A refusal by its number of "What the screen says"; done with a number, or with none. No two cases mean the same.
 abbrev pub meaning : Answer → model.Answer (Option ℕ)
