@@ -1,6 +1,6 @@
 -- The two passes together: where the index holds the whole log, the places listed are those of the log's names; a log that adds more
 -- different names than the large index is to hold leaves more than 224 of them standing.
-use Rattle.model.proofs.Prelude.{ℕ, _+_, _*_, _-_, _^_, _≤_, _<_, _≡_, sym, _∙_, ap, true, false, not, _&&_, List, [], map, arith, leb, length, getD, replicate, length-map, length-replicate, le-leb, lt-leb, leb-true, eqb-true, not-true, not-false}
+use Rattle.model.proofs.Prelude.{ℕ, _+_, _*_, _-_, _^_, _≤_, _<_, _≡_, sym, _∙_, ap, true, false, _&&_, List, [], map, arith, leb, length, getD, replicate, length-map, length-replicate, le-leb, lt-leb, leb-true, eqb-true}
 use Rattle.model.specs.Lists.{all, foldl, isSome}
 use Rattle.model.specs.Words.{Mem, word}
 use Rattle.model.specs.Layout.{isDirectory, mostNames}
@@ -142,23 +142,14 @@ pub inode-in : (m : Mem) (L P N d : ℕ) → Ready m L P N → isDirectory (view
 inode-in m L P N d r h = let a = r .bytes in let b = r .room in let e = eqb-true d 0 h in omega arith
 
 module _ (m : Mem) (L P N d : ℕ) (ready : Ready m L P N) (g : Log) (l : LogOf m L P N d g) where
-  pub log-found : g .found ≡ true → FoundLog m L g
-  log-found h =
+  pub log-found : FoundLog m L g
+  log-found =
       let a = ready .bytes in
       let b = ready .room in
-      record { inside = l .inside h; apart = l .apart h; placed = l .placed h; some = omega arith }
+      record { inside = l .inside; apart = l .apart; placed = l .placed; some = omega arith }
 
-  module _ (dir : isDirectory (view m) d ≡ true) (x : Named) (t : List ℕ) where
-    pub names-lost : not (g .found) ≡ true → x .good ≡ false → length t ≡ 224
-        → Folds m L (logOk (view m) P N d && leb (length (namesOf (view m) P N d)) mostNames) (namesOf (view m) P N d) x t
-    unfolding logOk
-    names-lost h y o =
-        let z : isSome (logPages (view m) P N d) ≡ false = sym (l .answer) ∙ not-true (g .found) h in
-        record { good = y ∙ rw z; count = λ w. clash (x .good) w y; long = o; filled = λ w. clash (x .good) w y; names = λ w. clash (x .good) w y }
-
-    pub names-found : not (g .found) ≡ false → Folds m L (namesFit m N g) (logNames m g) x t
-        → Folds m L (logOk (view m) P N d && leb (length (namesOf (view m) P N d)) mostNames) (namesOf (view m) P N d) x t
-    unfolding logOk namesOf namesFit logNames entriesFrom
-    names-found h f =
-        let k = not-false (g .found) h in
-        rw (sym (l .answer) ∙ k, dir) (rw (l .entries-are k) at f)
+  pub names-found : (x : Named) (t : List ℕ) → isDirectory (view m) d ≡ true → isSome (logPages (view m) P N d) ≡ true
+      → Folds m L (namesFit m N g) (logNames m g) x t
+      → Folds m L (logOk (view m) P N d && leb (length (namesOf (view m) P N d)) mostNames) (namesOf (view m) P N d) x t
+  unfolding logOk namesOf namesFit logNames entriesFrom
+  names-found x t dir s f = rw (s, dir) (rw (l .entries-are) at f)

@@ -1,9 +1,9 @@
 -- The loops over a log: a step takes the index, or the places that stand, one entry on, and an entry that is none of a directory's decides.
-use Rattle.model.proofs.Prelude.{ℕ, _+_, _*_, _-_, _/_, _%_, _≤_, _<_, _≡_, refl, sym, _∙_, ap, Bool, true, false, not, _&&_, List, [], map, arith, eqb, length, eqb-true, leb-true}
+use Rattle.model.proofs.Prelude.{ℕ, _+_, _*_, _-_, _/_, _≤_, _<_, _≡_, refl, sym, _∙_, ap, Bool, true, false, not, _&&_, List, [], map, arith, eqb, length}
 use Rattle.model.specs.Lists.{bit, all, foldl}
 use Rattle.model.specs.Words.{Mem}
 use Rattle.model.specs.Entry.{entryAt, nameEntryOk}
-use Rattle.model.proofs.Tests.{ands, bit-le}
+use Rattle.model.proofs.Tests.{bit-le}
 use Rattle.model.proofs.Lists.{all-cons}
 use Rattle.words.proofs.Cond.{asked-true, asked-false}
 use Rattle.log.specs.Entries.{entryIn, meant}
@@ -68,9 +68,9 @@ module _ (m : Mem) (L p : ℕ) (l : List ℕ) (e : Entry) where
     stands-none h = rw h
 
 -- A log of which n entries are left, from a cursor on.
-pub record Going (m : Mem) (L P n at end : ℕ) : Type 0 where
-  pub inside : within n m P at end ≡ true
-  pub placed : all isPlaced (wordsFrom n m at end) ≡ true
+pub record Going (m : Mem) (L P n from end : ℕ) : Type 0 where
+  pub inside : within n m P from end ≡ true
+  pub placed : all isPlaced (wordsFrom n m from end) ≡ true
   pub bytes : 512 * P ≤ L
   pub few : P ≤ 4096
 
@@ -78,57 +78,57 @@ pub going-first : (m : Mem) (L : ℕ) (r : Log) → Inside m L r → all isPlace
 going-first m L r i p = record { inside = i .steps; placed = p; bytes = i .bytes; few = i .few }
 
 -- The step s from the cursor; p is the entry's place.
-module _ (m : Mem) (L P n at end : ℕ) (k : Going m L P n at end) (l : 0 < n) (d : at ≡ end → ⊥) (s : Step) (e : s ≡ stepAt m at) where
-  next-at : s .next .at ≡ landing m at + 8
-  next-at = rw e
+module _ (m : Mem) (L P n from end : ℕ) (k : Going m L P n from end) (l : 0 < n) (d : from ≡ end → ⊥) (s : Step) (e : s ≡ stepAt m from) where
+  pub next-place : s .next .place ≡ landing m from + 1
+  next-place = rw e
 
-  pub entry-is : s .entry ≡ entryIn m (landing m at)
+  pub entry-is : s .entry ≡ entryIn m (8 * landing m from)
   entry-is = rw e
 
-  parts : (isPlaced (landing m at) ≡ true) × (all isPlaced (wordsFrom (n - 1) m (landing m at + 8) end) ≡ true)
-  parts = all-cons isPlaced (landing m at) (wordsFrom (n - 1) m (landing m at + 8) end) (rw (next-words n m at end l d) at (k .placed))
+  parts : (isPlaced (8 * landing m from) ≡ true) × (all isPlaced (wordsFrom (n - 1) m (landing m from + 1) end) ≡ true)
+  parts = all-cons isPlaced (8 * landing m from) (wordsFrom (n - 1) m (landing m from + 1) end) (rw (next-words n m from end l d) at (k .placed))
 
-  at-eight : (landing m at % 8 ≡ 0) × (64 ≤ landing m at)
-  unfolding isPlaced
-  at-eight = let q = parts .0 in (eqb-true (landing m at % 8) 0 (search ands), leb-true 64 (landing m at) (search ands))
-
-  pub going-next : Going m L P (n - 1) (s .next .at) end
+  pub going-next : Going m L P (n - 1) (s .next .place) end
   going-next =
-      record { inside = within-turn n m P at end (k .inside) l d s e; placed = rw next-at (parts .1); bytes = k .bytes; few = k .few }
+      record { inside = within-turn n m P from end (k .inside) l d s e; placed = rw next-place (parts .1); bytes = k .bytes; few = k .few }
 
-  pub next-room : 8 ≤ s .next .at
-  next-room = let q = next-at in omega arith
+  pub next-room : 1 ≤ s .next .place
+  next-room = let q = next-place in omega arith
 
-  module _ (N : ℕ) (f z : Bool) (a : all (nameEntryOk N) (map (entryAt m) (wordsFrom n m at end)) ≡ z) (g : f ≡ nameEntryOk N (meant (s .entry))) where
-    tested : f ≡ nameEntryOk N (entryAt m (landing m at))
-    tested = g ∙ rw (entry-is, meant-in m (landing m at))
+  module _ (N : ℕ) (f z : Bool) (a : all (nameEntryOk N) (map (entryAt m) (wordsFrom n m from end)) ≡ z) (g : f ≡ nameEntryOk N (meant (s .entry))) where
+    tested : f ≡ nameEntryOk N (entryAt m (8 * landing m from))
+    tested = g ∙ rw (entry-is, meant-in m (8 * landing m from))
 
-    pub ok-turn : not f ≡ false → all (nameEntryOk N) (map (entryAt m) (wordsFrom (n - 1) m (s .next .at) end)) ≡ z
+    pub ok-turn : not f ≡ false → all (nameEntryOk N) (map (entryAt m) (wordsFrom (n - 1) m (s .next .place) end)) ≡ z
     unfolding all
-    ok-turn y = rw next-at (rw (next-words n m at end l d, all, asked-true _ f tested y) at a)
+    ok-turn y = rw next-place (rw (next-words n m from end l d, all, asked-true _ f tested y) at a)
 
     pub ok-bad : not f ≡ true → false ≡ z
     unfolding all
-    ok-bad y = rw (next-words n m at end l d, all, asked-false _ f tested y) at a
+    ok-bad y = rw (next-words n m from end l d, all, asked-false _ f tested y) at a
 
-  module _ (p : ℕ) (q : p ≡ (s .next .at - 8) / 8) where
-    pub place-is : p ≡ landing m at / 8
-    place-is = let a = next-at in omega arith
+  module _ (p : ℕ) (q : p ≡ s .next .place - 1) where
+    pub place-is : p ≡ landing m from
+    place-is = let a = next-place in omega arith
+
+    -- the place of the entry's first word
+    pub word-place : 8 * landing m from / 8 ≡ p
+    word-place = let a = place-is in omega arith
 
     pub place-in : 64 * p + 64 ≤ L
-    place-in = let a = place-is in let b = step-there n m P at end (k .inside) l d L (k .bytes) in let c = at-eight in omega arith
+    place-in = let a = place-is in let b = step-there n m P from end (k .inside) l d L (k .bytes) in omega arith
 
     pub place-low : p < 65536
-    place-low = let a = place-is in let b = step-low n m P at end (k .inside) l d (k .few) in omega arith
+    place-low = let a = place-is in let b = step-low n m P from end (k .inside) l d (k .few) in omega arith
 
     -- the words that are left, and what the index and the places come to
     module _ (i : List ℕ) where
-      pub index-turn : (j z : List ℕ) (r : ℕ) → indexOf m i (wordsFrom n m at end) ≡ z → EntryNoted m L i p (s .entry) r j
-          → indexOf m j (wordsFrom (n - 1) m (s .next .at) end) ≡ z
+      pub index-turn : (j z : List ℕ) (r : ℕ) → indexOf m i (wordsFrom n m from end) ≡ z → EntryNoted m L i p (s .entry) r j
+          → indexOf m j (wordsFrom (n - 1) m (s .next .place) end) ≡ z
       unfolding foldl indexStep
       index-turn j z r a h =
-          let b : j ≡ indexStep m i (landing m at) = h .list ∙ rw (place-is, entry-is) in
-          rw (next-at, b) (rw (next-words n m at end l d) at a)
+          let b : j ≡ indexStep m i (8 * landing m from) = h .list ∙ rw (entry-is, word-place) in
+          rw (next-place, b) (rw (next-words n m from end l d) at a)
 
       pub room-turn : (b r : ℕ) (j : List ℕ) → b + 1 < length i → EntryNoted m L i p (s .entry) r j → b + 1 < length j
       room-turn b r j v h = let a = h .long in omega arith
@@ -140,11 +140,11 @@ module _ (m : Mem) (L P n at end : ℕ) (k : Going m L P n at end) (l : 0 < n) (
           → (b : ℕ) → c ≤ b → b + 1 < length i → EntryNoted m L i p (s .entry) r j → c + r ≡ taken j
       unfolding indexStep
       count-turn N f c r j g y t b o v h =
-          let x : nameEntryOk N (entryAt m (landing m at)) ≡ true =
-          rw (← (meant-in m (landing m at)), ← entry-is) (asked-true (nameEntryOk N (meant (s .entry))) f g y) in
-          let u = step-taken m N (landing m at) i (parts .0) x (omega arith) in
-          let v₁ : taken j ≡ taken (indexStep m i (landing m at)) = ap taken (h .list ∙ rw (place-is, entry-is)) in
-          let v₂ : r ≡ newBy m i (entryIn m (landing m at)) = h .answer ∙ rw entry-is in
+          let x : nameEntryOk N (entryAt m (8 * landing m from)) ≡ true =
+          rw (← (meant-in m (8 * landing m from)), ← entry-is) (asked-true (nameEntryOk N (meant (s .entry))) f g y) in
+          let u = step-taken m N (8 * landing m from) i (parts .0) x (omega arith) in
+          let v₁ : taken j ≡ taken (indexStep m i (8 * landing m from)) = ap taken (h .list ∙ rw (entry-is, word-place)) in
+          let v₂ : r ≡ newBy m i (entryIn m (8 * landing m from)) = h .answer ∙ rw entry-is in
           omega arith
 
 -- The answers of `index_names`: ws are all words and l the index at first.
@@ -170,10 +170,10 @@ module _ (m : Mem) (L N b : ℕ) (ws l : List ℕ) where
         full = λ h. absurd (bad-full h);
       }
 
-  full-index : (c P n at end : ℕ) (k : List ℕ) → b < c → c ≡ taken k → Going m L P n at end
-      → indexOf m k (wordsFrom n m at end) ≡ indexOf m l ws → Indexes m L N b ws l Full k
-  full-index c P n at end k h e p a =
-      let g : taken k ≤ taken (indexOf m l ws) = rw a at (grows m (wordsFrom n m at end) k (p .placed)) in
+  full-index : (c P n from end : ℕ) (k : List ℕ) → b < c → c ≡ taken k → Going m L P n from end
+      → indexOf m k (wordsFrom n m from end) ≡ indexOf m l ws → Indexes m L N b ws l Full k
+  full-index c P n from end k h e p a =
+      let g : taken k ≤ taken (indexOf m l ws) = rw a at (grows m (wordsFrom n m from end) k (p .placed)) in
       record {
         good = λ y. absurd (full-whole y);
         list = λ y. absurd (full-whole y);
@@ -183,9 +183,9 @@ module _ (m : Mem) (L N b : ℕ) (ws l : List ℕ) where
         full = λ _. omega arith;
       }
 
-  module _ (n at end c : ℕ) (k : List ℕ) (a : all (nameEntryOk N) (map (entryAt m) (wordsFrom n m at end)) ≡ all (nameEntryOk N) (map (entryAt m) ws))
-      (f : indexOf m k (wordsFrom n m at end) ≡ indexOf m l ws) (e : c ≡ taken k) (h : c ≤ b) (s : Slots L k) where
-    ended : wordsFrom n m at end ≡ [] → Indexes m L N b ws l Whole k
+  module _ (n from end c : ℕ) (k : List ℕ) (a : all (nameEntryOk N) (map (entryAt m) (wordsFrom n m from end)) ≡ all (nameEntryOk N) (map (entryAt m) ws))
+      (f : indexOf m k (wordsFrom n m from end) ≡ indexOf m l ws) (e : c ≡ taken k) (h : c ≤ b) (s : Slots L k) where
+    ended : wordsFrom n m from end ≡ [] → Indexes m L N b ws l Whole k
     unfolding all foldl
     ended z =
         record {
@@ -197,17 +197,17 @@ module _ (m : Mem) (L N b : ℕ) (ws l : List ℕ) where
           full = λ y. absurd (full-whole (sym y));
         }
 
-    pub whole-index : at ≡ end → Indexes m L N b ws l Whole k
-    whole-index z = ended (no-words n m at end z)
+    pub whole-index : from ≡ end → Indexes m L N b ws l Whole k
+    whole-index z = ended (no-words n m from end z)
 
     pub spent-index : n ≤ 0 → Indexes m L N b ws l Whole k
-    spent-index z = ended (spent-words n m at end z)
+    spent-index z = ended (spent-words n m from end z)
 
 -- a step that makes the index too large
-pub full-turn : (m : Mem) (L P n at end : ℕ) (k : Going m L P n at end) (l : 0 < n) (d : at ≡ end → ⊥) (s : Step) (e : s ≡ stepAt m at) (p : ℕ)
-    (q : p ≡ (s .next .at - 8) / 8) (i j ws l₀ : List ℕ) (N : ℕ) (f : Bool) (c r b : ℕ) → f ≡ nameEntryOk N (meant (s .entry)) → not f ≡ false
-    → c ≡ taken i → c ≤ b → b + 1 < length i → EntryNoted m L i p (s .entry) r j → indexOf m i (wordsFrom n m at end) ≡ indexOf m l₀ ws
+pub full-turn : (m : Mem) (L P n from end : ℕ) (k : Going m L P n from end) (l : 0 < n) (d : from ≡ end → ⊥) (s : Step) (e : s ≡ stepAt m from) (p : ℕ)
+    (q : p ≡ s .next .place - 1) (i j ws l₀ : List ℕ) (N : ℕ) (f : Bool) (c r b : ℕ) → f ≡ nameEntryOk N (meant (s .entry)) → not f ≡ false
+    → c ≡ taken i → c ≤ b → b + 1 < length i → EntryNoted m L i p (s .entry) r j → indexOf m i (wordsFrom n m from end) ≡ indexOf m l₀ ws
     → b < c + r → Indexes m L N b ws l₀ Full j
-full-turn m L P n at end k l d s e p q i j ws l₀ N f c r b g y t o v h a x =
-    full-index m L N b ws l₀ (c + r) P (n - 1) (s .next .at) end j x (count-turn m L P n at end k l d s e p q i N f c r j g y t b o v h)
-    (going-next m L P n at end k l d s e) (index-turn m L P n at end k l d s e p q i j (indexOf m l₀ ws) r a h)
+full-turn m L P n from end k l d s e p q i j ws l₀ N f c r b g y t o v h a x =
+    full-index m L N b ws l₀ (c + r) P (n - 1) (s .next .place) end j x (count-turn m L P n from end k l d s e p q i N f c r j g y t b o v h)
+    (going-next m L P n from end k l d s e) (index-turn m L P n from end k l d s e p q i j (indexOf m l₀ ws) r a h)

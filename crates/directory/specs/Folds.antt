@@ -27,7 +27,7 @@ pub record Folds (m : Mem) (L : ℕ) (ok : Bool) (ns : Names) (r : Named) (t : L
   pub filled : r .good ≡ true → Filled m L (r .count) t
   pub names : r .good ≡ true → standing m (take (r .count) t) ≡ ns
 
--- a log that was found: its steps stay in L bytes, and its entries start at words of which none comes twice
+-- a log as `log_of` answers it: its steps stay in L bytes, and its entries start at words of which none comes twice
 pub record FoundLog (m : Mem) (L : ℕ) (g : Log) : Type 0 where
   pub inside : Inside m L g
   pub apart : distinct (logWords m g) ≡ true

@@ -3,13 +3,14 @@
 // and then each add that is the last entry of its name stands.
 ghost use mathlib.Core.Path.{_≡_};
 ghost use mathlib.Core.Bool.{true, false, _&&_};
-ghost use Prim.Native.Nat.{_+_, _*_, _-_, _/_, _≤_, _<_};
+ghost use Prim.Native.Nat.{_+_, _*_, _-_, _≤_, _<_};
 ghost use lib.Dec.{leb};
 ghost use lib.ListN.{length, getD, set, replicate};
-ghost use Rattle.model.specs.Lists.{all};
+ghost use Rattle.model.specs.Lists.{all, isSome};
 ghost use Rattle.model.specs.Words.{word};
 ghost use Rattle.model.specs.Layout.{isDirectory, mostNames};
 ghost use Rattle.model.specs.Journal.{view};
+ghost use Rattle.model.specs.Log.{logPages};
 ghost use Rattle.model.specs.State.{namesOf};
 ghost use Rattle.model.specs.Accept.{logOk};
 ghost use Rattle.log.specs.Ready.{Ready};
@@ -40,15 +41,15 @@ fn put_place(places: &mut [u16; 224], i: usize, p: usize)
     places[i] = p as u16;
 }
 
-// Answers the place of the entry that a step handed back: the cursor after it stands eight words behind its first word.
-// Example: of a step whose next cursor is at word 648 it is 80, the place of the entry at word 640.
+// Answers the place of the entry that a step handed back: the one before the next cursor. It is made wide first, for speed
+// (docs/PROOFS.md, "Before a proof").
+// Example: of a step whose next cursor is at place 81 it is 80, the place of the entry at word 640.
 fn place_before(s: Step) -> usize
-    requires { ⌜ 8 ≤ s .next .at ⌝ }
-    ensures { λ r. ⌜ r ≡ (s .next .at - 8) / 8 ⌝ }
+    requires { ⌜ 1 ≤ s .next .place ⌝ }
+    ensures { λ r. ⌜ r ≡ s .next .place - 1 ⌝ }
 {
     let next = s.next;
-    let at = next.at;
-    (at - 8) / 8
+    words::wide_index(next.place) - 1
 }
 
 // Notes an entry at a place in the index of names, if it adds or removes one. Answers how many names are new there with it.
@@ -91,12 +92,12 @@ fn index_names(v: &[u8], log: Log, inodes: usize, index: &mut [u16], most: usize
 {
     let end = log.end;
     let pages = log.pages;
-    let mut c = Cursor { at: log.start };
+    let mut c = Cursor { place: log.start };
     let mut count: usize = 0;
     let mut left = 7 * pages;
     while 0 < left {
-        let at = c.at;
-        if at == end {
+        let from = c.place;
+        if from == end {
             return Indexed::Whole;
         }
         let s = log::log_step(v, c);
@@ -162,12 +163,12 @@ fn list_standing(v: &[u8], log: Log, index: &[u16], places: &mut [u16; 224]) -> 
 {
     let end = log.end;
     let pages = log.pages;
-    let mut c = Cursor { at: log.start };
+    let mut c = Cursor { place: log.start };
     let mut count: usize = 0;
     let mut left = 7 * pages;
     while 0 < left {
-        let at = c.at;
-        if at == end {
+        let from = c.place;
+        if from == end {
             return Named { good: true, count };
         }
         let s = log::log_step(v, c);
@@ -244,21 +245,18 @@ fn fold_many(v: &[u8], log: Log, inodes: usize, places: &mut [u16; 224]) -> Name
     }
 }
 
-// Puts the places of the names of directory d into a table, and answers how many; not good where its log is not one that an
-// accepted volume has (its tail is not right, its walk does not end, or an entry is none of a directory's), or more than 224 names stand.
+// Puts the places of the names of directory d into a table, and answers how many. The walk of its log is known to end. Not good where an
+// entry is none of a directory's, or more than 224 names stand.
 // Example: of a volume just formatted names_of(v, 0, pages, inodes, places) is good and has 0 names.
 pub fn names_of(v: &[u8], d: usize, pages: usize, inodes: usize, places: &mut [u16; 224]) -> Named
     requires { ⌜ Ready (word (now v)) (length (now v)) pages inodes × (isDirectory (view (word (now v))) d ≡ true)
-        × (length (now places) ≡ 224) ⌝ }
+        × (isSome (logPages (view (word (now v))) pages inodes d) ≡ true) × (length (now places) ≡ 224) ⌝ }
     ensures { λ r. ⌜ Folds (word (now (v .entry))) (length (now (v .entry)))
         (logOk (view (word (now (v .entry)))) pages inodes d
         && leb (length (namesOf (view (word (now (v .entry)))) pages inodes d)) mostNames)
         (namesOf (view (word (now (v .entry)))) pages inodes d) r (now (places .exit)) ⌝ }
 {
-    let log = log::find_log(v, d, pages, inodes);
-    if !log.found {
-        return not_good();
-    }
+    let log = log::log_of(v, d, pages, inodes);
     let fold = fold_few(v, log, inodes, places);
     match fold {
         Fold::Done(named) => named,

@@ -4,9 +4,11 @@ ghost use mathlib.Core.Path.{_≡_};
 ghost use mathlib.Core.Bool.{true};
 ghost use Prim.Native.Nat.{_+_, _-_, _*_, _/_, _%_, _≤_, _<_};
 ghost use lib.ListN.{length, set, replicate, getD};
+ghost use Rattle.model.specs.Lists.{isSome};
 ghost use Rattle.model.specs.Words.{word, byteAt};
 ghost use Rattle.model.specs.Journal.{view};
 ghost use Rattle.model.specs.Entry.{writeEntry, fileEntryOk};
+ghost use Rattle.model.specs.Log.{logPages};
 ghost use Rattle.model.specs.State.{fileOf};
 ghost use Rattle.model.specs.Accept.{logOk, endOk};
 ghost use Rattle.log.specs.Entries.{meant};
@@ -159,17 +161,17 @@ fn fold_file(v: &[u8], log: Log, inodes: usize, table: &mut [u64; 128]) -> Folde
 {
     let end = log.end;
     let pages = log.pages;
-    let mut c = Cursor { at: log.start };
+    let mut c = Cursor { place: log.start };
     let mut size: u64 = 0;
     let mut left = 7 * pages;
     while 0 < left {
-        let at = c.at;
-        if at == end {
+        let from = c.place;
+        if from == end {
             return Folded { good: true, size };
         }
         let s = log::log_step(v, c);
         let e = s.entry;
-        if !entry_ok(e, pages, inodes) {
+        if !entry_ok(e, pages as usize, inodes) {
             return Folded { good: false, size };
         }
         size = apply(e, size, table);
@@ -179,20 +181,16 @@ fn fold_file(v: &[u8], log: Log, inodes: usize, table: &mut [u64; 128]) -> Folde
     Folded { good: true, size }
 }
 
-// Reads the log of file k into a table of zeros, and answers the file's size; not good where the log is not as an accepted volume has it.
+// Reads the log of file k, whose walk is known to end, into a table of zeros, and answers the file's size; not good where an entry is none
+// that a file's log may hold.
 // Example: where the tail of inode 3 is 0, file_state(v, 3, 64, 8, table) is good, has size 0 and leaves the table.
 pub fn file_state(v: &[u8], k: usize, pages: usize, inodes: usize, table: &mut [u64; 128]) -> Folded
-    requires { ⌜ Ready (word (now v)) (length (now v)) pages inodes × (0 < k) × (k < inodes) × (now table ≡ replicate 128 0) ⌝ }
+    requires { ⌜ Ready (word (now v)) (length (now v)) pages inodes × (0 < k) × (k < inodes) × (now table ≡ replicate 128 0)
+        × (isSome (logPages (view (word (now v))) pages inodes k) ≡ true) ⌝ }
     ensures { λ r. ⌜ Folds (logOk (view (word (now (v .entry)))) pages inodes k)
         (fileOf (view (word (now (v .entry)))) pages inodes k) r (now (table .exit)) ⌝ }
 {
-    let log = log::find_log(v, k, pages, inodes);
-    if !log.found {
-        return Folded {
-            good: false,
-            size: 0,
-        };
-    }
+    let log = log::log_of(v, k, pages, inodes);
     fold_file(v, log, inodes, table)
 }
 

@@ -1,25 +1,28 @@
 -- The cases of the functions that judge one inode: what they read from the raw memory is what the view has, and a chain of
 -- judgements and marks is one judgement.
-use Rattle.model.proofs.Prelude.{ℕ, zero, suc, _+_, _*_, _/_, _≤_, _<_, _≡_, refl, sym, _∙_, ap, subst, ⊎-elim, Bool, true, false, not, _&&_, List, [], append-nil, none, arith, getD, leb, lt-leb, eq-eqb, ne-eqb, not-true, not-false}
-use Rattle.model.specs.Lists.{all, isSome, orElse}
+use Rattle.model.proofs.Prelude.{ℕ, zero, suc, _+_, _*_, _/_, _≤_, _<_, _≡_, refl, sym, _∙_, ap, subst, ⊎-elim, Bool, true, false, not, _&&_, List, [], arith, getD, leb, lt-leb, eq-eqb, ne-eqb, not-true, not-false}
+use Rattle.model.specs.Lists.{all, allBelow, isSome, orElse}
 use Rattle.model.specs.Words.{Mem}
-use Rattle.model.specs.Layout.{validWord, headWord, tailWord, inPages, root, filePages}
+use Rattle.model.specs.Layout.{validWord, inPages, root, filePages}
 use Rattle.model.specs.Journal.{view}
-use Rattle.model.specs.Log.{walk, tailOk, pagesOf, logPages, entries, pages as pagesOfInode}
+use Rattle.model.specs.Log.{logPages, entries, pages as pagesOfInode}
 use Rattle.model.specs.State.{File, fileOf}
 use Rattle.model.specs.Accept.{logOk, endOk, validOk, inodeOk}
-use Rattle.model.proofs.Tests.{by-bool, by-eq, no, ands}
+use Rattle.model.proofs.Tests.{by-bool, by-eq, no, and-left, and-right, ands}
 use Rattle.model.proofs.Frame.Placed.{Placed, in-bounds}
 use Rattle.model.proofs.Frame.Inode.{file-placed}
 use Rattle.model.proofs.State.Bytes.{kept-end, placed-ended, small-file}
 use Rattle.journal.proofs.Views.{view-raw}
 use Rattle.log.specs.Ready.{Ready}
-use Rattle.log.proofs.Viewed.{inode-pages}
 use Rattle.files.specs.State.{fileFrom, Folds}
 use Rattle.files.specs.declared.Folded.{Folded}
-use Rattle.marks.specs.Marks.{fresh, marked, mapped, mappedBy, usedBy, Marked}
+use Rattle.marks.specs.Marks.{fresh, marked, mapped, mappedBy, usedBy, usedBelow, Marked, Judged, Walked}
 use Rattle.marks.proofs.Counts.{fresh-append, marked-append}
-use Rattle.inodes.specs.Judged.{Judged, EndJudged, FileJudged, InodeJudged}
+use Rattle.inodes.specs.Judged.{EndJudged, pagesOfFile, FileJudged, noMarks, RootJudged, InodeJudged}
+
+-- all inodes, on marks of which none was set
+abbrev pub FilesJudged : Mem → ℕ → ℕ → Bool → List ℕ → Type 0
+FilesJudged u P N r b = Judged (allBelow N (inodeOk u P N)) noMarks (usedBelow u P N N) r b
 
 -- The answer no.
 
@@ -31,34 +34,6 @@ bad ok a ps b e = refused ok a ps b (rw e)
 
 pub marked-before : (ok : Bool) (a ps b : List ℕ) → fresh a ps ≡ false → Judged ok a ps false b
 marked-before ok a ps b e = refused ok a ps b (by-bool ok (λ h. rw (h, e)) (λ h. rw h))
-
--- The log pages of inode k: t is the tail and h the head that the code read.
-
-module _ (m : Mem) (L P N k a t : ℕ) (ready : Ready m L P N) (x : a ≡ tailWord k) (i : t ≡ view m a) where
-  pub no-pages : (u : List ℕ) → t ≡ 0 → Marked u (pagesOfInode (view m) P N k) true u
-  unfolding pagesOfInode logPages pagesOf fresh marked
-  no-pages u z = let e : view m (tailWord k) ≡ 0 = rw (← x, ← i) z in record { answer = rw e; list = λ _. rw e }
-
-  module _ (b h : ℕ) (y : b ≡ headWord k) (g : h ≡ view m b) (z : t ≡ 0 → ⊥) (s : isSome (logPages (view m) P N k) ≡ true) where
-    raw-pages : pagesOf m P N h t ≡ logPages (view m) P N k
-    raw-pages = rw (g, i, y, x) (inode-pages m P N (ready .eight) (ready .journal) k)
-
-    raw-walk : walk m P N P h (t / 512) ≡ logPages (view m) P N k
-    unfolding pagesOf
-    raw-walk =
-        by-bool (tailOk t) (λ o. rw (ne-eqb t 0 z, o) at raw-pages)
-        (λ o. let n : none ≡ logPages (view m) P N k = rw (ne-eqb t 0 z, o) at raw-pages in no (rw (← n) at s))
-
-    pub walk-ends : isSome (walk m P N P h (t / 512)) ≡ true
-    walk-ends = rw raw-walk s
-
-    pub walk-pages : (u v : List ℕ) (r : Bool) → Marked u (orElse (walk m P N P h (t / 512)) []) r v → Marked u (pagesOfInode (view m) P N k) r v
-    unfolding pagesOfInode
-    walk-pages u v r o = rw raw-walk at o
-
-pub log-some : (u : Mem) (P N k : ℕ) → logOk u P N k ≡ true → isSome (logPages u P N k) ≡ true
-unfolding logOk
-log-some u P N k ok = search ands
 
 -- what holds of every data page holds of all of them
 pub mapped-all : (f : ℕ → ℕ) (g : ℕ → Bool) → ((i : ℕ) → (f i ≡ 0 → ⊥) → g (f i) ≡ true) → (n i : ℕ) → all g (mappedBy f i n) ≡ true
@@ -87,27 +62,27 @@ module _ (m : Mem) (L P N k s : ℕ) (t : List ℕ) (ready : Ready m L P N) (kp 
   page-inside : (i : ℕ) → (getD t i 0 ≡ 0 → ⊥) → inPages P N (getD t i 0) ≡ true
   page-inside i z = ⊎-elim (λ e. absurd (z e)) (λ h. h .1) (set-down i)
 
-  pub end-size : s ≤ 65536
+  end-size : s ≤ 65536
   unfolding logOk fileOf
   end-size =
       let h = rw (ne-eqb k 0 (omega arith)) at ok in
       let e : s ≡ fileOf (view m) P N k .size = ap (λ (g : File). g .size) f in
       rw e (small-file P N (entries (view m) P N k) (search ands))
 
-  pub end-room : 512 * getD t (s / 512) 0 + 512 ≤ L
+  end-room : 512 * getD t (s / 512) 0 + 512 ≤ L
   end-room =
       let a = ready .bytes in
       let b = ready .room in
       by-eq (getD t (s / 512) 0) 0 (λ z. rw z (omega arith))
       (λ z. let i = in-bounds P N (getD t (s / 512) 0) (page-inside (s / 512) z) in omega arith)
 
-  pub table-in : (n : ℕ) → all (inPages P N) (mapped t 0 n) ≡ true
+  table-in : (n : ℕ) → all (inPages P N) (mapped t 0 n) ≡ true
   unfolding mapped
   table-in n = mapped-all (λ j. getD t j 0) (inPages P N) page-inside n 0
 
   -- the data pages lie past the inode table, where the raw memory has the words of the view
-  end-is : endOk m (fileFrom s t) ≡ endOk (view m) (fileOf (view m) P N k)
-  end-is =
+  end-same : endOk m (fileFrom s t) ≡ endOk (view m) (fileOf (view m) P N k)
+  end-same =
       let e = ready .eight in
       kept-end (view m) m (fileFrom s t)
       (λ i o l z.
@@ -115,49 +90,92 @@ module _ (m : Mem) (L P N k s : ℕ) (t : List ℕ) (ready : Ready m L P N) (kp 
       sym (view-raw m N (64 * getD t i 0 + o) (ready .journal) (omega arith)))
       ∙ ap (endOk (view m)) f
 
-  -- where the end is good, the file pages that start below the size have all data pages; n is their count
-  mapped-is : (n : ℕ) → n ≡ (s + 511) / 512 → endOk m (fileFrom s t) ≡ true → mapped t 0 n ≡ mappedBy (fileOf (view m) P N k .page) 0 filePages
+  -- where the end is good, the file pages that start below the size have all data pages
+  mapped-is : endOk m (fileFrom s t) ≡ true → mapped t 0 ((s + 511) / 512) ≡ mappedBy (fileOf (view m) P N k .page) 0 filePages
   unfolding mapped
-  mapped-is n c good =
+  mapped-is good =
       let a = end-size in
       let g = placed-ended m P N (fileFrom s t) set-down good in
-      mapped-first (λ j. getD t j 0) 128 n 0 (omega arith)
+      mapped-first (λ j. getD t j 0) 128 ((s + 511) / 512) 0 (omega arith)
       (λ j l. by-eq (getD t j 0) 0 (λ z. z) (λ z. let b = g .starts j z in absurd (omega arith)))
       ∙ ap (λ (x : File). mappedBy (x .page) 0 128) f
 
-  module _ (r : Bool) (e : r ≡ endOk m (fileFrom s t)) where
-    pub end-not : (a ps b : List ℕ) → not r ≡ true → Judged (endOk (view m) (fileOf (view m) P N k)) a ps false b
-    end-not a ps b n = bad _ a ps b (sym end-is ∙ sym e ∙ not-true r n)
+-- The end of a file with size s and table t: r is what `end_ok` answered.
+module _ (m : Mem) (s : ℕ) (t : List ℕ) (r : Bool) (e : r ≡ endOk m (fileFrom s t)) where
+  pub end-not : (a ps b : List ℕ) → not r ≡ true → Judged (endOk m (fileFrom s t)) a ps false b
+  end-not a ps b n = bad (endOk m (fileFrom s t)) a ps b (sym e ∙ not-true r n)
 
-    module _ (n : not r ≡ false) (a b : List ℕ) (q : Bool) (x : Marked a (pagesOfInode (view m) P N k) q b) where
-      pub log-not : not q ≡ true → EndJudged (view m) P N k a false b
-      log-not y = marked-before _ a _ b (rw (fresh-append, sym (x .answer) ∙ not-true q y))
+  -- n is what `pages_below` answered
+  pub counted-in : (P N n : ℕ) → n ≡ (s + 511) / 512 → all (inPages P N) (mapped t 0 ((s + 511) / 512)) ≡ true → all (inPages P N) (mapped t 0 n) ≡ true
+  counted-in P N n h i = rw h i
 
-      pub table-is : (o : Bool) (c : List ℕ) (i : ℕ) → not q ≡ false → i ≡ (s + 511) / 512 → Marked b (mapped t 0 i) o c
-          → EndJudged (view m) P N k a o c
-      table-is o c i y h g =
-          let z : q ≡ true = not-false q y in
-          let d : endOk m (fileFrom s t) ≡ true = sym e ∙ not-false r n in
-          record {
-            answer = rw (sym end-is ∙ d, fresh-append, sym (x .answer) ∙ z, ← x .list z, ← mapped-is i h d) (g .answer);
-            list = λ w. rw (marked-append, ← x .list z, ← mapped-is i h d) (g .list w);
-          }
+  -- o is what `mark_table` answered
+  pub end-is : (a b : List ℕ) (n : ℕ) (o : Bool) → not r ≡ false → n ≡ (s + 511) / 512 → Marked a (mapped t 0 n) o b → EndJudged m s t a o b
+  end-is a b n o y h g = record { answer = rw (sym e ∙ not-false r y, ← h) (g .answer); list = λ w. rw (← h) (g .list w) }
 
--- A file by what `file_state` answered, x, and the table t that it left; g is the file, and ok whether its log is good.
+-- File k: q is what `mark_log` answered, and a and b are the marks before and after it.
+module _ (m : Mem) (L P N k : ℕ) (ready : Ready m L P N) (kp : 0 < k) (a b : List ℕ) (q : Bool) (x : Walked (logPages (view m) P N k) a q b) where
+  abbrev u : Mem
+  u = view m
 
-module _ (ok : Bool) (g : File) (x : Folded) (t : List ℕ) (f : Folds ok g x t) where
-  pub file-bad : (e : Bool) (a ps : List ℕ) → not (x .good) ≡ true → Judged (ok && e) a ps false a
-  file-bad e a ps y = bad (ok && e) a ps a (rw (sym (f .good) ∙ not-true (x .good) y))
+  pub log-not : not q ≡ true → FileJudged (view m) P N k a false b
+  unfolding logOk pagesOfInode
+  log-not y =
+      let z : isSome (logPages u P N k) && fresh a (orElse (logPages u P N k) []) ≡ false = sym (x .answer) ∙ not-true q y in
+      by-bool (isSome (logPages u P N k))
+      (λ i. marked-before (logOk u P N k && endOk u (fileOf u P N k)) a (pagesOfFile u P N k) b (rw (fresh-append, rw i at z)))
+      (λ i. bad (logOk u P N k && endOk u (fileOf u P N k)) a (pagesOfFile u P N k) b (rw i))
 
-  module _ (y : not (x .good) ≡ false) where
-    pub state-good : ok ≡ true
-    state-good = sym (f .good) ∙ not-false (x .good) y
+  module _ (y : not q ≡ false) where
+    parts : isSome (logPages u P N k) && fresh a (orElse (logPages u P N k) []) ≡ true
+    parts = sym (x .answer) ∙ not-false q y
 
-    pub state-file : fileFrom (x .size) t ≡ g
-    state-file = f .file (not-false (x .good) y)
+    pub log-there : isSome (logPages (view m) P N k) ≡ true
+    log-there = and-left (isSome (logPages u P N k)) (fresh a (orElse (logPages u P N k) [])) parts
 
-    pub file-good : (e : Bool) (a ps b : List ℕ) (r : Bool) → Judged e a ps r b → Judged (ok && e) a ps r b
-    file-good e a ps b r j = record { answer = rw state-good (j .answer); list = j .list }
+    log-once : fresh a (pagesOfInode u P N k) ≡ true
+    unfolding pagesOfInode
+    log-once = and-right (isSome (logPages u P N k)) (fresh a (orElse (logPages u P N k) [])) parts
+
+    log-marked : b ≡ marked a (pagesOfInode u P N k)
+    unfolding pagesOfInode
+    log-marked = x .list (not-false q y)
+
+    -- f is what `file_state` answered, and t the table that it left
+    module _ (f : Folded) (t : List ℕ) (g : Folds (logOk (view m) P N k) (fileOf (view m) P N k) f t) where
+      pub file-bad : not (f .good) ≡ true → FileJudged (view m) P N k a false b
+      file-bad n = bad (logOk u P N k && endOk u (fileOf u P N k)) a (pagesOfFile u P N k) b (rw (sym (g .good) ∙ not-true (f .good) n))
+
+      module _ (n : not (f .good) ≡ false) where
+        state-good : logOk (view m) P N k ≡ true
+        state-good = sym (g .good) ∙ not-false (f .good) n
+
+        state-file : fileFrom (f .size) t ≡ fileOf (view m) P N k
+        state-file = g .file (not-false (f .good) n)
+
+        pub size-low : f .size ≤ 65536
+        size-low = end-size m L P N k (f .size) t ready kp state-good state-file
+
+        pub size-room : 512 * getD t (f .size / 512) 0 + 512 ≤ L
+        size-room = end-room m L P N k (f .size) t ready kp state-good state-file
+
+        pub pages-in : all (inPages P N) (mapped t 0 ((f .size + 511) / 512)) ≡ true
+        pages-in = table-in m L P N k (f .size) t ready kp state-good state-file ((f .size + 511) / 512)
+
+        -- o and c are what `judge_end` answered and left
+        pub file-is : (o : Bool) (c : List ℕ) → EndJudged m (f .size) t b o c → FileJudged (view m) P N k a o c
+        file-is o c j =
+            let same = end-same m L P N k (f .size) t ready kp state-good state-file in
+            by-bool (endOk m (fileFrom (f .size) t))
+            (λ e.
+            let d = mapped-is m L P N k (f .size) t ready kp state-good state-file e in
+            record {
+              answer = rw (state-good, ← same, e, fresh-append, log-once, ← log-marked, ← d) (rw e at (j .answer));
+              list = λ w. rw (marked-append, ← log-marked, ← d) (j .list w);
+            })
+            (λ e.
+            let z : o ≡ false = rw e at (j .answer) in
+            record { answer = rw (state-good, ← same, e) z; list = λ w. no (sym z ∙ w) })
 
 -- Inode k, not the directory's: v is its valid word.
 
@@ -186,13 +204,11 @@ module _ (m : Mem) (P N k w v : ℕ) (kp : 0 < k) (x : w ≡ validWord k) (i : v
 -- The directory's inode: v is its valid word.
 
 module _ (m : Mem) (P N w v : ℕ) (x : w ≡ validWord root) (i : v ≡ view m w) where
-  pub root-bad : (a ps : List ℕ) → (v ≡ 1 → ⊥) → Judged (inodeOk (view m) P N root) a ps false a
-  unfolding inodeOk validOk
-  root-bad a ps z = bad _ a ps a (rw (inodeOk, validOk, ne-eqb (view m (validWord root)) 1 (λ y. z (i ∙ rw x y))))
+  pub root-bad : (b : List ℕ) → (v ≡ 1 → ⊥) → RootJudged (view m) P N false b
+  root-bad b z = bad _ noMarks (pagesOfInode (view m) P N root) b (rw (ne-eqb (view m (validWord root)) 1 (λ y. z (i ∙ rw x y))))
 
-  pub root-is : (a b : List ℕ) (r : Bool) → v ≡ 1 → logOk (view m) P N root ≡ true → Marked a (pagesOfInode (view m) P N root) r b
-      → InodeJudged (view m) P N root a r b
-  unfolding inodeOk validOk usedBy
-  root-is a b r z g j =
+  pub root-is : (a b : List ℕ) (r : Bool) → a ≡ noMarks → v ≡ 1 → Walked (logPages (view m) P N root) a r b → RootJudged (view m) P N r b
+  unfolding pagesOfInode
+  root-is a b r n z j =
       let e : view m (validWord root) ≡ 1 = rw (← x, ← i) z in
-      record { answer = rw (e, g, append-nil) (j .answer); list = λ y. rw (e, append-nil) (j .list y) }
+      record { answer = rw (e, ← n) (j .answer); list = λ y. rw (← n) (j .list y) }

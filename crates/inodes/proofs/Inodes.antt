@@ -1,16 +1,15 @@
 -- The cases of the functions that judge the inodes one after the other: what holds of the inodes below k and of inode k
 -- holds of those below k + 1, and what fails of one inode fails of all.
-use Rattle.model.proofs.Prelude.{ℕ, zero, suc, _+_, _-_, _≤_, _<_, _≡_, refl, sym, _∙_, Bool, true, false, not, _&&_, List, _++_, arith, not-true, not-false}
+use Rattle.model.proofs.Prelude.{ℕ, zero, suc, _+_, _-_, _≤_, _<_, _≡_, sym, _∙_, Bool, true, false, not, _&&_, List, _++_, arith, not-true, not-false}
 use Rattle.model.specs.Lists.{allBelow}
 use Rattle.model.specs.Words.{Mem}
-use Rattle.model.specs.Layout.{root}
 use Rattle.model.specs.Accept.{inodeOk}
 use Rattle.model.proofs.Tests.{by-bool, clash, not-true-false, ands}
 use Rattle.model.proofs.Lists.{allBelow-at}
-use Rattle.marks.specs.Marks.{fresh, marked, usedBy, usedBelow}
+use Rattle.marks.specs.Marks.{fresh, usedBy, usedBelow}
 use Rattle.marks.proofs.Counts.{fresh-append, marked-append}
-use Rattle.inodes.specs.Judged.{InodeJudged, noMarks, Below, FilesJudged}
-use Rattle.inodes.proofs.Cases.{bad, marked-before}
+use Rattle.inodes.specs.Judged.{InodeJudged, noMarks, Below}
+use Rattle.inodes.proofs.Cases.{FilesJudged, bad, marked-before}
 
 module _ (u : Mem) (P N : ℕ) where
   next-good : (k : ℕ) → inodeOk u P N k ≡ true → allBelow k (inodeOk u P N) ≡ true → allBelow (k + 1) (inodeOk u P N) ≡ true
@@ -55,15 +54,3 @@ module _ (u : Mem) (P N : ℕ) where
   files-done k b g l h =
       let s : k ≡ N = omega arith in
       record { answer = rw (rw s at (g .good), rw s at (g .once)); list = λ _. rw s at (g .list) }
-
-  -- The directory's inode is the first.
-  module _ (a b : List ℕ) (r : Bool) (z : a ≡ noMarks) (j : InodeJudged u P N root a r b) where
-    none-below : Below u P N 0 a
-    unfolding allBelow usedBelow fresh marked
-    none-below = record { good = refl; once = refl; list = z }
-
-    pub root-next : not r ≡ false → Below u P N 1 b
-    root-next n = files-next 0 a b r j none-below n
-
-    pub root-not : not r ≡ true → 0 < N → FilesJudged u P N false b
-    root-not n l = files-not 0 a b r j none-below n l

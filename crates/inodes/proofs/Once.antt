@@ -11,8 +11,8 @@ use Rattle.model.proofs.Lists.{allBelow-at, sumBelow-same, all-append, all-by}
 use Rattle.model.proofs.Frame.Inode.{page-in, mapped-in}
 use Rattle.marks.specs.Marks.{unmarked, usedBy, usedBelow}
 use Rattle.marks.proofs.Counts.{fresh-uses, unmarked-free}
-use Rattle.inodes.specs.Judged.{FilesJudged, Served, unmarkedCount}
-use Rattle.inodes.proofs.Cases.{mapped-all}
+use Rattle.inodes.specs.Judged.{Served, unmarkedCount}
+use Rattle.inodes.proofs.Cases.{FilesJudged, mapped-all}
 
 -- The pages that serve good inodes are log and data pages.
 
@@ -39,7 +39,7 @@ module _ (u : Mem) (P N : ℕ) (ok : allBelow N (inodeOk u P N) ≡ true) where
   below-in zero l = refl
   below-in (suc k) l = all-append (inPages P N) (usedBelow u P N k) (usedBy u P N k) (below-in k (omega arith)) (by-in k (omega arith))
 
--- the answer of `judge_files`, in the words of the acceptance
+-- what was judged of all inodes, in the words of the acceptance
 pub served : (u : Mem) (P N : ℕ) (r : Bool) (b : List ℕ) → P ≤ 4096 → FilesJudged u P N r b → Served u P N r b
 served u P N r b low j =
     record {

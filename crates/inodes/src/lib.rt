@@ -2,53 +2,32 @@
 // whose sizes and journal were judged before; pages and inodes are its sizes. What the judge has found to serve it marks.
 ghost use mathlib.Core.Path.{_≡_};
 ghost use mathlib.Core.Bool.{true};
-ghost use Prim.Native.Nat.{_≤_, _<_};
-ghost use lib.ListN.{length};
-ghost use Rattle.model.specs.Lists.{bit, isSome};
+ghost use Prim.Native.Nat.{_+_, _*_, _/_, _≤_, _<_};
+ghost use lib.ListN.{length, getD};
+ghost use Rattle.model.specs.Lists.{bit, all};
 ghost use Rattle.model.specs.Words.{word};
-ghost use Rattle.model.specs.Layout.{root};
+ghost use Rattle.model.specs.Layout.{inPages};
 ghost use Rattle.model.specs.Journal.{view};
-ghost use Rattle.model.specs.Log.{logPages, pages as pagesOfInode};
 ghost use Rattle.log.specs.Ready.{Ready};
-ghost use Rattle.marks.specs.Marks.{Marked, unmarked};
-ghost use Rattle.inodes.specs.Judged.{FileRead, DirectoryRead, EndJudged, FileJudged, InodeJudged, noMarks, Below, FilesJudged};
-ghost use Rattle.inodes.specs.Judged.{Served, unmarkedCount};
+ghost use Rattle.marks.specs.Marks.{unmarked, mapped};
+ghost use Rattle.inodes.specs.Judged.{EndJudged, FileJudged, InodeJudged, noMarks, RootJudged, Below, Served, unmarkedCount};
 
-// Marks the log pages of inode k, and answers whether none of them was marked before. Its log is known to have an end.
-// Example: where inode 3 has head 9 and tail 4672, mark_inode(v, 3, 16, 8, marks) marks page 9.
-fn mark_inode(v: &[u8], k: usize, pages: usize, inodes: usize, marks: &mut [u8; 4096]) -> bool
-    requires { ⌜ Ready (word (now v)) (length (now v)) pages inodes × (k < inodes)
-        × (isSome (logPages (view (word (now v))) pages inodes k) ≡ true) ⌝ }
-    ensures { λ r. ⌜ Marked (now (marks .entry)) (pagesOfInode (view (word (now (v .entry)))) pages inodes k) r (now (marks .exit)) ⌝ }
-{
-    let tail = journal::viewed(v, layout::tail_word(k)) as usize;
-    if tail == 0 {
-        return true;
-    }
-    let head = journal::viewed(v, layout::head_word(k)) as usize;
-    marks::mark_log(v, head, tail / layout::PAGE, pages, inodes, marks)
-}
-
-// Judges the end of file k, whose log is good and gives this size and table, and marks its pages. Answers whether the
-// end is good and no page was marked before. Where the end is good, only file pages that start below the size are mapped.
+// Judges the end of a file with this size and table, and marks its data pages. Answers whether the end is good and no page was marked
+// before. Where the end is good, only file pages that start below the size are mapped.
 // Example: of a file of size 100 on page 9 the answer is false where a byte of page 9 from byte 100 on is not 0.
 fn judge_end(
     v: &[u8],
-    k: usize,
     size: usize,
     table: &[u64; 128],
     pages: usize,
     inodes: usize,
     marks: &mut [u8; 4096],
 ) -> bool
-    requires { ⌜ Ready (word (now v)) (length (now v)) pages inodes × (0 < k) × (k < inodes)
-        × FileRead (view (word (now v))) pages inodes k size (now table) ⌝ }
-    ensures { λ r. ⌜ EndJudged (view (word (now (v .entry)))) pages inodes k (now (marks .entry)) r (now (marks .exit)) ⌝ }
+    requires { ⌜ (size ≤ 65536) × (512 * getD (now table) (size / 512) 0 + 512 ≤ length (now v))
+        × (all (inPages pages inodes) (mapped (now table) 0 ((size + 511) / 512)) ≡ true) × (pages ≤ 4096) ⌝ }
+    ensures { λ r. ⌜ EndJudged (word (now (v .entry))) size (now (table .entry)) (now (marks .entry)) r (now (marks .exit)) ⌝ }
 {
     if !files::end_ok(v, table, size) {
-        return false;
-    }
-    if !mark_inode(v, k, pages, inodes, marks) {
         return false;
     }
     marks::mark_table(table, files::pages_below(size), pages, inodes, marks)
@@ -61,12 +40,15 @@ fn judge_file(v: &[u8], k: usize, pages: usize, inodes: usize, marks: &mut [u8; 
     requires { ⌜ Ready (word (now v)) (length (now v)) pages inodes × (0 < k) × (k < inodes) ⌝ }
     ensures { λ r. ⌜ FileJudged (view (word (now (v .entry)))) pages inodes k (now (marks .entry)) r (now (marks .exit)) ⌝ }
 {
+    if !log::mark_log(v, k, pages, inodes, marks) {
+        return false;
+    }
     let mut table = [0u64; 128];
     let f = files::file_state(v, k, pages, inodes, &mut table);
     if !f.good {
         return false;
     }
-    judge_end(v, k, f.size as usize, &table, pages, inodes, marks)
+    judge_end(v, f.size as usize, &table, pages, inodes, marks)
 }
 
 // Judges inode k, which is not the directory's, and marks its pages. Answers whether the inode is good and no page was
@@ -86,13 +68,28 @@ fn judge_inode(v: &[u8], k: usize, pages: usize, inodes: usize, marks: &mut [u8;
     false
 }
 
-// Judges every inode after the directory's, whose pages are marked, and marks their pages. Answers whether all are good
-// and no page was marked before.
-// Example: where inodes 1 and 2 are valid and page 9 is a page of both logs, the answer is false.
-fn judge_files(v: &[u8], pages: usize, inodes: usize, marks: &mut [u8; 4096]) -> bool
+// Judges the directory's inode and the walk of its log, and marks its pages, on marks of which none is set. Answers whether it is valid and
+// the walk ends, on pages that differ.
+// Example: where word 64, its valid word, is 0, the answer is false.
+pub fn judge_root(v: &[u8], pages: usize, inodes: usize, marks: &mut [u8; 4096]) -> bool
+    requires { ⌜ Ready (word (now v)) (length (now v)) pages inodes × (now marks ≡ noMarks) ⌝ }
+    ensures { λ r. ⌜ RootJudged (view (word (now (v .entry)))) pages inodes r (now (marks .exit)) ⌝ }
+{
+    let valid = journal::viewed(v, layout::valid_word(layout::ROOT));
+    if valid != 1 {
+        return false;
+    }
+    log::mark_log(v, layout::ROOT, pages, inodes, marks)
+}
+
+// Judges every inode after the directory's, whose log is good and whose pages are marked, and marks their pages. Answers whether every
+// inode is good and no page serves twice; where it answers yes it leaves the marks of all pages that serve.
+// Example: of a volume as format leaves it the answer is true, and no page is marked; where inodes 1 and 2 are valid and page 9 is a page
+// of both logs, the answer is false.
+pub fn judge_files(v: &[u8], pages: usize, inodes: usize, marks: &mut [u8; 4096]) -> bool
     requires { ⌜ Ready (word (now v)) (length (now v)) pages inodes × (0 < inodes)
         × Below (view (word (now v))) pages inodes 1 (now marks) ⌝ }
-    ensures { λ r. ⌜ FilesJudged (view (word (now (v .entry)))) pages inodes r (now (marks .exit)) ⌝ }
+    ensures { λ r. ⌜ Served (view (word (now (v .entry)))) pages inodes r (now (marks .exit)) ⌝ }
 {
     let mut k: usize = 1;
     while k < inodes {
@@ -102,34 +99,6 @@ fn judge_files(v: &[u8], pages: usize, inodes: usize, marks: &mut [u8; 4096]) ->
         k = k + 1;
     }
     true
-}
-
-// Judges the directory's inode, whose log is good, and marks its pages. Answers whether it is valid and no page was
-// marked before.
-// Example: where word 64, its valid word, is 0, the answer is false.
-fn judge_root(v: &[u8], pages: usize, inodes: usize, marks: &mut [u8; 4096]) -> bool
-    requires { ⌜ Ready (word (now v)) (length (now v)) pages inodes × DirectoryRead (view (word (now v))) pages inodes ⌝ }
-    ensures { λ r. ⌜ InodeJudged (view (word (now (v .entry)))) pages inodes root (now (marks .entry)) r (now (marks .exit)) ⌝ }
-{
-    let valid = journal::viewed(v, layout::valid_word(layout::ROOT));
-    if valid != 1 {
-        return false;
-    }
-    mark_inode(v, layout::ROOT, pages, inodes, marks)
-}
-
-// Judges every inode and every page of a volume whose directory's log is good. Answers whether every inode is good and no
-// page serves twice; where it answers yes it leaves the marks of all pages that serve.
-// Example: of a volume as format leaves it the answer is true, and no page is marked.
-pub fn judge_pages(v: &[u8], pages: usize, inodes: usize, marks: &mut [u8; 4096]) -> bool
-    requires { ⌜ Ready (word (now v)) (length (now v)) pages inodes × DirectoryRead (view (word (now v))) pages inodes
-        × (now marks ≡ noMarks) ⌝ }
-    ensures { λ r. ⌜ Served (view (word (now (v .entry)))) pages inodes r (now (marks .exit)) ⌝ }
-{
-    if !judge_root(v, pages, inodes, marks) {
-        return false;
-    }
-    judge_files(v, pages, inodes, marks)
 }
 
 // Answers 1 where page p is a log or data page that is not marked, and 0 where not.
@@ -148,7 +117,7 @@ pub fn unmarked_at(marks: &[u8; 4096], p: usize, pages: usize, inodes: usize) ->
     1
 }
 
-// Answers how many log and data pages are not marked. Where judge_pages answered yes and left the marks, it is the count
+// Answers how many log and data pages are not marked. Where judge_files answered yes and left the marks, it is the count
 // of free pages (proofs/Once.antt, `free-count`).
 // Example: with 16 pages and 8 inodes, of marks that are all 0 but that of page 9, free_count(marks, 16, 8) is 13.
 pub fn free_count(marks: &[u8; 4096], pages: usize, inodes: usize) -> u64

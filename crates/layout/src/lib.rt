@@ -20,6 +20,12 @@ pub const ENTRY_WORDS: usize = 8;
 // The entries of a log page.
 pub const PAGE_ENTRIES: usize = 7;
 
+// The places of a log page: its seven entries and the footer. A place is a word index divided by 8, so that it fits 16 bits.
+pub const PAGE_PLACES: u16 = 8;
+
+// The place of the footer in its page.
+pub const FOOTER_PLACE: u16 = 7;
+
 // The pages that a file has at most.
 pub const FILE_PAGES: usize = 128;
 

@@ -1,22 +1,24 @@
 -- A log read from the raw memory is the log of the view: its pages lie past the inode table, where both have the same words.
-use Rattle.model.proofs.Prelude.{ℕ, zero, suc, _+_, _*_, _/_, _%_, _≤_, _≡_, refl, sym, _∙_, Bool, true, false, not, List, [], map, Option, none, some, arith, ne-eqb}
+use Rattle.model.proofs.Prelude.{ℕ, zero, suc, _+_, _*_, _/_, _%_, _≤_, _<_, _≡_, refl, sym, Bool, true, false, List, [], map, Option, none, some, arith, ne-eqb}
 use Rattle.model.specs.Lists.{isSome, orElse}
 use Rattle.model.specs.Words.{Mem}
 use Rattle.model.specs.Layout.{headWord, tailWord, footer, inPages}
 use Rattle.model.specs.Journal.{view, journalOk}
 use Rattle.model.specs.Entry.{entryAt}
 use Rattle.model.specs.Log.{walk, entryWords, tailOk, tailSlots, pagesOf, logPages, pages, entries}
-use Rattle.model.proofs.Tests.{by-bool, by-eq, no}
+use Rattle.model.proofs.Tests.{by-bool, by-eq, not-true-false}
 use Rattle.model.proofs.Lists.{all-has}
 use Rattle.model.proofs.Log.Chain.{walk-chain, chain-inside}
+use Rattle.model.proofs.Log.Extend.{tail-ok, tail-slots}
 use Rattle.model.proofs.Log.Pages.{entries-same, live-words}
 use Rattle.model.proofs.Frame.Placed.{in-bounds}
-use Rattle.words.proofs.Cond.{asked-true, asked-false}
 use Rattle.journal.proofs.Views.{view-raw}
+use Rattle.marks.specs.Marks.{fresh, marked, Walked}
 use Rattle.log.specs.Ready.{Ready}
-use Rattle.log.specs.Steps.{wordsFrom, entriesFrom, startOf, wordsOf}
+use Rattle.log.specs.Steps.{wordsFrom, entriesFrom}
 use Rattle.log.specs.Found.{LogOf}
-use Rattle.log.proofs.Reading.{Read, read}
+use Rattle.log.proofs.Marking.{not-walked}
+use Rattle.log.proofs.Reading.{startOf, wordsOf, Read, read}
 use Rattle.log.proofs.Places.{log-apart, log-placed}
 
 module _ (m u : Mem) (P N : ℕ) (eight : N % 8 ≡ 0) (same : (w : ℕ) → 64 + 8 * N ≤ w → u w ≡ m w) where
@@ -53,7 +55,7 @@ module _ (m u : Mem) (P N : ℕ) (eight : N % 8 ≡ 0) (same : (w : ℕ) → 64 
       (λ k. rw (ne-eqb t 0 z, k)))
 
 module _ (m : Mem) (P N : ℕ) (eight : N % 8 ≡ 0) (j : journalOk m N ≡ true) (k : ℕ) where
-  pub inode-pages : pagesOf m P N (view m (headWord k)) (view m (tailWord k)) ≡ logPages (view m) P N k
+  inode-pages : pagesOf m P N (view m (headWord k)) (view m (tailWord k)) ≡ logPages (view m) P N k
   unfolding logPages
   inode-pages = pages-raw m (view m) P N eight (λ w h. view-raw m N w j h) (view m (headWord k)) (view m (tailWord k))
 
@@ -65,36 +67,81 @@ module _ (m : Mem) (P N : ℕ) (eight : N % 8 ≡ 0) (j : journalOk m N ≡ true
   unfolding logPages entries pages
   inode-entries = entries-raw m (view m) P N eight (λ w h. view-raw m N w j h) (view m (headWord k)) (view m (tailWord k))
 
--- Inode k's log, whose head h and tail t the code read from the view; r is what `log_found` answered.
-module _ (m : Mem) (L P N k a b h t : ℕ) (ready : Ready m L P N) (x : a ≡ headWord k) (g : h ≡ view m a) (y : b ≡ tailWord k)
-    (i : t ≡ view m b) (r : Bool) (e : r ≡ isSome (pagesOf m P N h t)) where
-  found-is : isSome (pagesOf m P N h t) ≡ isSome (logPages (view m) P N k)
-  found-is = rw (g, i, x, y, inode-pages m P N (ready .eight) (ready .journal) k)
+-- the words of inode k lie in the volume
+pub inode-in : (m : Mem) (L P N k : ℕ) → Ready m L P N → k < N → 64 * k + 576 ≤ L
+inode-in m L P N k r h = let a = r .bytes in let b = r .room in let c = r .eight in omega arith
 
-  pub log-lost : not r ≡ true → LogOf m L P N k (record { found = false; start = 0; end = 0; pages = P })
-  log-lost n =
-      let z : isSome (logPages (view m) P N k) ≡ false = sym found-is ∙ asked-false (isSome (pagesOf m P N h t)) r e n in
-      record { answer = sym z; of-pages = refl; inside = λ z. no z; apart = λ z. no z; placed = λ z. no z; entries-are = λ z. no z }
+-- Inode k's log: t is the tail that the code read from the view.
+module _ (m : Mem) (L P N k b t : ℕ) (ready : Ready m L P N) (y : b ≡ tailWord k) (i : t ≡ view m b) where
+  pages-are : pagesOf m P N (view m (headWord k)) t ≡ logPages (view m) P N k
+  pages-are = rw (i, y) (inode-pages m P N (ready .eight) (ready .journal) k)
 
-  module _ (n : not r ≡ false) where
-    reading : Read m P N h t
-    reading = read m P N h t (asked-true (isSome (pagesOf m P N h t)) r e n)
+  -- The walk that marks: u are the marks before it.
+  pub empty-log : (u : List ℕ) → t ≡ 0 → Walked (logPages (view m) P N k) u true u
+  unfolding pagesOf fresh marked
+  empty-log u z = rw (← pages-are, z) (record { answer = refl; list = λ _. refl })
 
-    pub start-room : startOf h t ≤ 262144
-    start-room = let c = reading .start in let d = ready .pages in omega arith
+  wrong-tail : (u : List ℕ) → (t ≡ 0 → ⊥) → (tailOk t ≡ true → ⊥) → Walked (logPages (view m) P N k) u false u
+  unfolding pagesOf
+  wrong-tail u z w = not-walked (logPages (view m) P N k) u u (rw (← pages-are, ne-eqb t 0 z, not-true-false (tailOk t) w))
 
-    pub log-there : (at : ℕ) → at ≡ startOf h t → LogOf m L P N k (record { found = true; start = at; end = t / 8; pages = P })
+  pub odd-tail : (u : List ℕ) → (t ≡ 0 → ⊥) → (t % 64 ≡ 0 → ⊥) → Walked (logPages (view m) P N k) u false u
+  odd-tail u z e = wrong-tail u z (λ k. let s = tail-slots t k in e (omega arith))
+
+  pub round-tail : (u : List ℕ) → (t ≡ 0 → ⊥) → t % 512 ≡ 0 → Walked (logPages (view m) P N k) u false u
+  round-tail u z f = wrong-tail u z (λ k. let s = tail-slots t k in omega arith)
+
+  -- h is the head that the code read
+  module _ (a h : ℕ) (x : a ≡ headWord k) (g : h ≡ view m a) where
+    head-is : h ≡ view m (headWord k)
+    head-is = rw (g, x)
+
+    pub log-walk : (u v : List ℕ) (r : Bool) → (t ≡ 0 → ⊥) → t % 64 ≡ 0 → (t % 512 ≡ 0 → ⊥) → Walked (walk m P N P h (t / 512)) u r v
+        → Walked (logPages (view m) P N k) u r v
+    unfolding pagesOf
+    log-walk u v r z e f w =
+        let o : tailOk t ≡ true = tail-ok t (t % 512 / 64) (omega arith) (omega arith) (omega arith) in
+        let q : walk m P N P h (t / 512) ≡ logPages (view m) P N k = rw (ne-eqb t 0 z, o, ← head-is) at pages-are in
+        rw q at w
+
+  -- A log whose walk is known to end.
+  module _ (s : isSome (logPages (view m) P N k) ≡ true) where
+    reading : Read m P N (view m (headWord k)) t
+    reading = read m P N (view m (headWord k)) t (rw pages-are s)
+
+    pub end-low : t / 64 < 65536
+    end-low = let c = reading .end in let d = ready .pages in omega arith
+
+    log-from : (p q : ℕ) → p ≡ startOf (view m (headWord k)) t → q ≡ t / 64 → LogOf m L P N k (record { start = p; end = q; pages = P })
     unfolding entriesFrom
-    log-there at q =
-        let w : wordsFrom (7 * P) m at (t / 8) ≡ wordsOf m P N h t = rw q (reading .words) in
-        let d : wordsOf m P N h t ≡ entryWords (pages (view m) P N k) (tailSlots (view m) k) =
-        rw (g, i, x, y) (inode-words m P N (ready .eight) (ready .journal) k) in
-        let f : map (entryAt m) (wordsOf m P N h t) ≡ entries (view m) P N k = rw (g, i, x, y) (inode-entries m P N (ready .eight) (ready .journal) k) in
+    log-from p q c d =
+        let w : wordsFrom (7 * P) m p q ≡ wordsOf m P N (view m (headWord k)) t = rw (c, d) (reading .words) in
+        let e : wordsOf m P N (view m (headWord k)) t ≡ entryWords (pages (view m) P N k) (tailSlots (view m) k) =
+        rw (i, y) (inode-words m P N (ready .eight) (ready .journal) k) in
+        let f : map (entryAt m) (wordsOf m P N (view m (headWord k)) t) ≡ entries (view m) P N k =
+        rw (i, y) (inode-entries m P N (ready .eight) (ready .journal) k) in
         record {
-          answer = sym (asked-true (isSome (pagesOf m P N h t)) r e n) ∙ found-is;
           of-pages = refl;
-          inside = λ _. record { steps = rw q (reading .inside); bytes = ready .bytes; few = ready .pages };
-          apart = λ _. rw (w, d) (log-apart (view m) P N k);
-          placed = λ _. rw (w, d) (log-placed (view m) P N k);
-          entries-are = λ _. rw w f;
+          inside = record { steps = rw (c, d) (reading .inside); bytes = ready .bytes; few = ready .pages };
+          apart = rw (w, e) (log-apart (view m) P N k);
+          placed = rw (w, e) (log-placed (view m) P N k);
+          entries-are = rw w f;
         }
+
+    pub log-none : t ≡ 0 → LogOf m L P N k (record { start = 0; end = 0; pages = P })
+    unfolding startOf
+    log-none z = log-from 0 0 (rw z) (omega arith)
+
+    module _ (a h : ℕ) (x : a ≡ headWord k) (g : h ≡ view m a) (z : t ≡ 0 → ⊥) where
+      starts : 8 * h ≡ startOf (view m (headWord k)) t
+      unfolding startOf
+      starts = rw (ne-eqb t 0 z, g, x)
+
+      pub head-low : h < 65536
+      head-low = let c = reading .start in let d = starts in let e = ready .pages in omega arith
+
+      pub start-low : 8 * h < 65536
+      start-low = let c = reading .start in let d = starts in let e = ready .pages in omega arith
+
+      pub log-some : LogOf m L P N k (record { start = 8 * h; end = t / 64; pages = P })
+      log-some = log-from (8 * h) (t / 64) starts refl

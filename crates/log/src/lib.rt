@@ -1,20 +1,24 @@
-// An inode's log, read entry by entry: the entry that a part of the volume starts with, a step from one entry to the
-// next, and where a log starts and ends, if it does. v is the volume, read as it stands: a log's head and tail come from the view, and
-// its pages lie past every word that the view puts back (proofs/Viewed.antt). The largest volume has 262,144 words.
+// An inode's log: the walk through its pages, which marks them and tells whether it ends, and then the log read entry by entry. v is the
+// volume, read as it stands: a log's head and tail come from the view, and its pages lie past every word that the view puts back
+// (proofs/Viewed.antt). Page numbers, places and steps are 16-bit numbers, since a volume has at most 4,096 pages; a number that the
+// volume holds is judged as the 64-bit number that it is before it is narrowed.
 ghost use mathlib.Core.Path.{_≡_};
+ghost use mathlib.Core.Bool.{true};
 ghost use Prim.Native.Nat.{_+_, _*_, _≤_, _<_};
 ghost use lib.ListN.{length};
 ghost use Rattle.model.specs.Lists.{isSome};
 ghost use Rattle.model.specs.Words.{word};
-ghost use Rattle.model.specs.Log.{walk, pagesOf};
+ghost use Rattle.model.specs.Journal.{view};
+ghost use Rattle.model.specs.Log.{walk, logPages};
+ghost use Rattle.marks.specs.Marks.{Walked};
 ghost use Rattle.log.specs.Entries.{nameIn, entryIn};
-ghost use Rattle.log.specs.Steps.{landing, stepAt, startOf};
+ghost use Rattle.log.specs.Steps.{landing, stepAt};
 ghost use Rattle.log.specs.Ready.{Ready};
-ghost use Rattle.log.specs.Found.{LogOf};
+ghost use Rattle.log.specs.Found.{narrowed, LogOf};
 
-// A place in a log, as a word index: an entry's first word, or the footer after a page's last entry.
+// Where a reader of a log stands, as a place: an entry, or the footer after a page's last entry. A place is a word index divided by 8.
 pub struct Cursor {
-    pub at: usize,
+    pub place: u16,
 }
 
 // A name as an entry holds it: its length, and its bytes as four words, filled up with zeros.
@@ -54,13 +58,102 @@ pub struct Step {
     pub next: Cursor,
 }
 
-// The log of an inode: whether its tail is right and its walk ends and, if so, the cursors at which it starts and ends. It has at
-// most 7 entries for each of the volume's pages.
+// The log of an inode: the places at which it starts and ends, and the volume's page count. It has at most 7 entries for each page.
 pub struct Log {
-    pub found: bool,
-    pub start: usize,
-    pub end: usize,
-    pub pages: usize,
+    pub start: u16,
+    pub end: u16,
+    pub pages: u16,
+}
+
+// Answers a number that the volume holds as a page number of 16 bits: 0 where it names no log or data page, as page 0 is none. The number
+// is judged before it is narrowed.
+// Example: with 64 pages and 8 inodes narrow_page(5, 64, 8) is 5, and narrow_page(1, 64, 8), narrow_page(64, 64, 8) and
+// narrow_page(65541, 64, 8) are 0.
+fn narrow_page(x: u64, pages: usize, inodes: usize) -> u16
+    requires { ⌜ pages ≤ 4096 ⌝ }
+    ensures { λ r. ⌜ r ≡ narrowed pages inodes x ⌝ }
+{
+    if x <= (inodes / 8) as u64 {
+        return 0;
+    }
+    if (pages as u64) <= x {
+        return 0;
+    }
+    x as u16
+}
+
+// Walks through a log, from page head through the footers to page last, and marks its pages. Answers whether the walk ends, inside the
+// log and data pages, and none of its pages was marked before. Where last is no log or data page, the answer is false.
+// Example: of marks that are all 0, where the footer of page 10 is 12, walk(v, 10, 12, 64, 8, marks) marks 10 and 12 and is true; where it
+// is 10, 64 or 65548, it is false.
+fn walk(v: &[u8], head: u64, last: u64, pages: usize, inodes: usize, marks: &mut [u8; 4096]) -> bool
+    requires { ⌜ (512 * pages ≤ length (now v)) × (pages ≤ 4096) ⌝ }
+    ensures { λ r. ⌜ Walked (walk (word (now (v .entry))) pages inodes pages head last) (now (marks .entry)) r (now (marks .exit)) ⌝ }
+{
+    let stop = narrow_page(last, pages, inodes);
+    let mut p = narrow_page(head, pages, inodes);
+    let mut left = pages as u16;
+    while 0 < left {
+        if p == 0 {
+            return false;
+        }
+        if !marks::take_page(marks, p as usize) {
+            return false;
+        }
+        if p == stop {
+            return true;
+        }
+        p = narrow_page(words::word_at(v, layout::footer(p as usize)), pages, inodes);
+        left = left - 1;
+    }
+    false
+}
+
+// Walks through the log of inode k, whose head and tail are read with the journal's open entries put back, and marks its pages. Answers
+// whether its tail is right, its walk ends and none of its pages was marked before. An empty log has no pages, and its head is not read.
+// Example: of marks that are all 0, where inode 3 has head 10 and tail 5248, mark_log(v, 3, 64, 8, marks) marks page 10 and is true; where
+// its tail is 5120, it is false, since no entry of page 10 stands before that tail.
+pub fn mark_log(v: &[u8], k: usize, pages: usize, inodes: usize, marks: &mut [u8; 4096]) -> bool
+    requires { ⌜ Ready (word (now v)) (length (now v)) pages inodes × (64 * k + 576 ≤ length (now v)) ⌝ }
+    ensures { λ r. ⌜ Walked (logPages (view (word (now (v .entry)))) pages inodes k) (now (marks .entry)) r (now (marks .exit)) ⌝ }
+{
+    let tail = journal::viewed(v, layout::tail_word(k));
+    if tail == 0 {
+        return true;
+    }
+    if tail % 64 != 0 {
+        return false;
+    }
+    if tail % 512 == 0 {
+        return false;
+    }
+    let head = journal::viewed(v, layout::head_word(k));
+    walk(v, head, tail / 512, pages, inodes, marks)
+}
+
+// Answers the log of inode k, whose walk is known to end, so that the places at which it starts and ends fit 16 bits. Head and tail are
+// read with the journal's open entries put back; the head of an empty log is not read.
+// Example: where inode 3 has head 10 and tail 5248, log_of(v, 3, 64, 8) starts at place 80 and ends at place 82; where its tail is 0, it
+// starts and ends at place 0.
+pub fn log_of(v: &[u8], k: usize, pages: usize, inodes: usize) -> Log
+    requires { ⌜ Ready (word (now v)) (length (now v)) pages inodes × (64 * k + 576 ≤ length (now v))
+        × (isSome (logPages (view (word (now v))) pages inodes k) ≡ true) ⌝ }
+    ensures { λ r. ⌜ LogOf (word (now (v .entry))) (length (now (v .entry))) pages inodes k r ⌝ }
+{
+    let tail = journal::viewed(v, layout::tail_word(k));
+    if tail == 0 {
+        return Log {
+            start: 0,
+            end: 0,
+            pages: pages as u16,
+        };
+    }
+    let head = journal::viewed(v, layout::head_word(k));
+    Log {
+        start: layout::PAGE_PLACES * (head as u16),
+        end: (tail / 64) as u16,
+        pages: pages as u16,
+    }
 }
 
 // Reads the name of the entry that a part of the volume starts with, and answers it.
@@ -108,115 +201,33 @@ fn entry_of(part: &[u8]) -> Entry
     Entry::None
 }
 
-// Answers the first word of the entry at a cursor: at a footer it is the first word of the next page.
-// Example: land(v, 648) is 648, and where word 696, the footer of page 10, is 12, land(v, 696) is 768.
-fn land(v: &[u8], at: usize) -> usize
-    requires { ⌜ (8 * at + 8 ≤ length (now v)) × (landing (word (now v)) at < 262144) ⌝ }
-    ensures { λ r. ⌜ r ≡ landing (word (now (v .entry))) at ⌝ }
+// Answers the place of the entry at a cursor: at a footer it is the first place of the next page, which the walk has judged.
+// Example: land(v, 81) is 81, and where word 696, the footer of page 10, is 12, land(v, 87) is 96.
+fn land(v: &[u8], from: u16) -> u16
+    requires { ⌜ (64 * from + 8 ≤ length (now v)) × (landing (word (now v)) from < 32768) ⌝ }
+    ensures { λ r. ⌜ r ≡ landing (word (now (v .entry))) from ⌝ }
 {
-    if at % layout::PAGE_WORDS == layout::ENTRY_WORDS * layout::PAGE_ENTRIES {
-        return layout::PAGE_WORDS * (words::word_at(v, at) as usize);
+    if from % layout::PAGE_PLACES == layout::FOOTER_PLACE {
+        let next = words::word_at(v, layout::ENTRY_WORDS * (from as usize));
+        return layout::PAGE_PLACES * (next as u16);
     }
-    at
+    from
 }
 
 // Reads the entry at a cursor, and answers it with the cursor after it.
-// Example: where words 640 and 641 are 2 and 700, log_step(v, Cursor { at: 640 }) has the entry Entry::SetSize(700) and the next
-// cursor at 648.
+// Example: where words 640 and 641 are 2 and 700, log_step(v, Cursor { place: 80 }) has the entry Entry::SetSize(700) and the next
+// cursor at place 81.
 pub fn log_step(v: &[u8], c: Cursor) -> Step
-    requires { ⌜ (8 * c .at + 8 ≤ length (now v)) × (8 * landing (word (now v)) (c .at) + 64 ≤ length (now v))
-        × (landing (word (now v)) (c .at) < 262144) ⌝ }
-    ensures { λ r. ⌜ r ≡ stepAt (word (now (v .entry))) (c .at) ⌝ }
+    requires { ⌜ (64 * c .place + 8 ≤ length (now v)) × (64 * landing (word (now v)) (c .place) + 64 ≤ length (now v))
+        × (landing (word (now v)) (c .place) < 32768) ⌝ }
+    ensures { λ r. ⌜ r ≡ stepAt (word (now (v .entry))) (c .place) ⌝ }
 {
-    let from = c.at;
-    let at = land(v, from);
-    let b = 8 * at;
+    let from = c.place;
+    let place = land(v, from);
+    let b = layout::ENTRY * (place as usize);
     let e = entry_of(&v[b..]);
     Step {
         entry: e,
-        next: Cursor {
-            at: at + layout::ENTRY_WORDS,
-        },
-    }
-}
-
-// Answers whether the walk from page head through the footers ends at page last, inside the log and data pages.
-// Example: where the footer of page 10 is 12, log_ends(v, 10, 12, 64, 8) is true; where it is 10, or 64, it is false.
-fn log_ends(v: &[u8], head: usize, last: usize, pages: usize, inodes: usize) -> bool
-    requires { ⌜ 512 * pages ≤ length (now v) ⌝ }
-    ensures { λ r. ⌜ r ≡ isSome (walk (word (now (v .entry))) pages inodes pages head last) ⌝ }
-{
-    let low = inodes / 8;
-    let mut p = head;
-    let mut fuel = pages;
-    while 0 < fuel {
-        if p <= low {
-            return false;
-        }
-        if pages <= p {
-            return false;
-        }
-        if p == last {
-            return true;
-        }
-        p = words::word_at(v, layout::footer(p)) as usize;
-        fuel = fuel - 1;
-    }
-    false
-}
-
-// Answers whether the log with this head and tail has pages: it is empty, or its tail is right and its walk ends.
-// Example: log_found(v, 9, 0, 64, 8) is true, since tail 0 is an empty log; log_found(v, 9, 5120, 64, 8) is false, since
-// no entry of page 10 stands before that tail.
-fn log_found(v: &[u8], head: usize, tail: usize, pages: usize, inodes: usize) -> bool
-    requires { ⌜ 512 * pages ≤ length (now v) ⌝ }
-    ensures { λ r. ⌜ r ≡ isSome (pagesOf (word (now (v .entry))) pages inodes head tail) ⌝ }
-{
-    if tail == 0 {
-        return true;
-    }
-    if tail % layout::ENTRY != 0 {
-        return false;
-    }
-    if tail % layout::PAGE == 0 {
-        return false;
-    }
-    log_ends(v, head, tail / layout::PAGE, pages, inodes)
-}
-
-// Answers the cursor at which the log with this head and tail starts; it ends at word tail / 8.
-// Example: log_start(10, 5248) is word 640, and log_start(10, 0) word 0, where the empty log ends too.
-fn log_start(head: usize, tail: usize) -> usize
-    requires { ⌜ startOf head tail ≤ 262144 ⌝ }
-    ensures { λ r. ⌜ r ≡ startOf head tail ⌝ }
-{
-    if tail == 0 {
-        return 0;
-    }
-    layout::PAGE_WORDS * head
-}
-
-// Answers the log of inode k, whose head and tail are read with the journal's open entries put back.
-// Example: where inode 3 has head 10 and tail 5248, find_log(v, 3, 64, 8) is found, starts at word 640 and ends at word 656; where
-// its tail is 5120, it is not found.
-pub fn find_log(v: &[u8], k: usize, pages: usize, inodes: usize) -> Log
-    requires { ⌜ Ready (word (now v)) (length (now v)) pages inodes × (64 * k + 576 ≤ length (now v)) ⌝ }
-    ensures { λ r. ⌜ LogOf (word (now (v .entry))) (length (now (v .entry))) pages inodes k r ⌝ }
-{
-    let head = journal::viewed(v, layout::head_word(k)) as usize;
-    let tail = journal::viewed(v, layout::tail_word(k)) as usize;
-    if !log_found(v, head, tail, pages, inodes) {
-        return Log {
-            found: false,
-            start: 0,
-            end: 0,
-            pages,
-        };
-    }
-    Log {
-        found: true,
-        start: log_start(head, tail),
-        end: tail / 8,
-        pages,
+        next: Cursor { place: place + 1 },
     }
 }

@@ -1,10 +1,8 @@
--- The cases of the loops that mark: at one page the list of pages that are left is that page and the list after it.
-use Rattle.model.proofs.Prelude.{ℕ, zero, suc, _+_, _*_, _-_, _^_, _≤_, _<_, _≡_, refl, sym, _∙_, Bool, true, false, not, List, [], _∷_, Option, none, some, arith, sub-one, eqb, getD, set, eq-eqb, ne-eqb, not-true, not-false}
-use Rattle.model.specs.Lists.{all, isSome, orElse}
-use Rattle.model.specs.Words.{Mem}
-use Rattle.model.specs.Layout.{footer, inPages}
-use Rattle.model.specs.Log.{walk, onto}
-use Rattle.model.proofs.Tests.{by-bool, by-eq, no}
+-- The cases of the loop that marks data pages: at one page the list of pages that are left is that page and the list after it.
+use Rattle.model.proofs.Prelude.{ℕ, zero, suc, _+_, _-_, _≤_, _<_, _≡_, sym, _∙_, Bool, true, false, not, List, _∷_, arith, sub-one, eqb, getD, set, eq-eqb, ne-eqb, not-true, not-false}
+use Rattle.model.specs.Lists.{all}
+use Rattle.model.specs.Layout.{inPages}
+use Rattle.model.proofs.Tests.{by-eq, no}
 use Rattle.model.proofs.Lists.{all-cons}
 use Rattle.model.proofs.Frame.Placed.{in-bounds}
 use Rattle.marks.specs.Marks.{fresh, marked, mappedBy, mapped, Marked}
@@ -27,75 +25,6 @@ marked-next u v ps z p a s = rw s a
 -- the answer no says nothing of the marks
 refused : (u t ps : List ℕ) → false ≡ fresh u ps → Marked u ps false t
 refused u t ps e = record { answer = e; list = λ y. no y }
-
--- The loop of `mark_log`: a walk of at most n steps from page p to page q is left.
-
-abbrev pub pagesFrom : Mem → ℕ → ℕ → ℕ → ℕ → ℕ → List ℕ
-pagesFrom m P N n p q = orElse (walk m P N n p q) []
-
-onto-else : (p : ℕ) (o : Option (List ℕ)) → isSome (onto p o) ≡ true → (isSome o ≡ true) × (orElse (onto p o) [] ≡ p ∷ orElse o [])
-onto-else p none e = no e
-onto-else p (some r) e = (refl, refl)
-
-walk-in : (n : ℕ) (m : Mem) (P N p q : ℕ) → isSome (walk m P N n p q) ≡ true → inPages P N p ≡ true
-unfolding walk
-walk-in zero m P N p q e = no e
-walk-in (suc n) m P N p q e = by-bool (inPages P N p) (λ i. i) (λ i. no (rw i at e))
-
-step-out : (n : ℕ) (m : Mem) (P N p q : ℕ) → isSome (walk m P N n p q) ≡ true → 0 < n → (p ≡ q → ⊥)
-    → (isSome (walk m P N (n - 1) (m (footer p)) q) ≡ true) × (pagesFrom m P N n p q ≡ p ∷ pagesFrom m P N (n - 1) (m (footer p)) q)
-unfolding walk
-step-out zero m P N p q e l d = absurd (omega arith)
-step-out (suc n) m P N p q e l d =
-    let i = walk-in (suc n) m P N p q e in
-    rw (sub-one, walk, i, ne-eqb p q d) (onto-else p (walk m P N n (m (footer p)) q) (rw (walk, i, ne-eqb p q d) at e))
-
-last-out : (n : ℕ) (m : Mem) (P N p q : ℕ) → isSome (walk m P N n p q) ≡ true → p ≡ q → pagesFrom m P N n p q ≡ p ∷ []
-unfolding walk
-last-out zero m P N p q e d = no e
-last-out (suc n) m P N p q e d = rw (walk, walk-in (suc n) m P N p q e, eq-eqb p q d)
-
-module _ (n : ℕ) (m : Mem) (P N p q : ℕ) (w : isSome (walk m P N n p q) ≡ true) where
-  -- the page is one that has a mark, and its footer is one of the volume's words
-  pub walk-low : P ≤ 4096 → p < 4096
-  walk-low h = let b = in-bounds P N p (walk-in n m P N p q w) in omega arith
-
-  pub walk-index : P ≤ 4096 → p < 2 ^ 57
-  walk-index h = let b = walk-low h in omega arith
-
-  pub walk-room : (a L : ℕ) → a ≡ footer p → 512 * P ≤ L → 8 * a + 8 ≤ L
-  walk-room a L i h = let b = in-bounds P N p (walk-in n m P N p q w) in omega arith
-
-  pub walk-turn : (a r : ℕ) → 0 < n → (p ≡ q → ⊥) → a ≡ footer p → r ≡ m a → isSome (walk m P N (n - 1) r q) ≡ true
-  walk-turn a r l d i e = rw (e, i) (step-out n m P N p q w l d .0)
-
-  module _ (u v : List ℕ) (f : Bool) (e : f ≡ eqb (getD u p 0) 0) (s : v ≡ set u p 1) where
-    module _ (a r : ℕ) (y : not f ≡ false) (l : 0 < n) (d : p ≡ q → ⊥) (i : a ≡ footer p) (g : r ≡ m a) where
-      pub log-fresh : (z : Bool) → fresh u (pagesFrom m P N n p q) ≡ z → fresh v (pagesFrom m P N (n - 1) r q) ≡ z
-      log-fresh z x = fresh-next u v (pagesFrom m P N (n - 1) r q) p f z (rw (step-out n m P N p q w l d .1, ← i, ← g) at x) e y s
-
-      pub log-marked : (z : List ℕ) → marked u (pagesFrom m P N n p q) ≡ z → marked v (pagesFrom m P N (n - 1) r q) ≡ z
-      log-marked z x = marked-next u v (pagesFrom m P N (n - 1) r q) z p (rw (step-out n m P N p q w l d .1, ← i, ← g) at x) s
-
-    module _ (o ps : List ℕ) (a : fresh u (pagesFrom m P N n p q) ≡ fresh o ps) where
-      pub log-last : marked u (pagesFrom m P N n p q) ≡ marked o ps → not f ≡ false → p ≡ q → Marked o ps true v
-      unfolding fresh marked
-      log-last b y d =
-          let x = rw (last-out n m P N p q w d) at a in
-          let z = rw (last-out n m P N p q w d) at b in
-          record { answer = fresh-next u v [] p f (fresh o ps) x e y s; list = λ _. marked-next u v [] (marked o ps) p z s }
-
-      pub log-not : not f ≡ true → 0 < n → Marked o ps false v
-      log-not y l =
-          refused o v ps
-          (by-eq p q
-          (λ d. fresh-not u [] p f (fresh o ps) (rw (last-out n m P N p q w d) at a) e y)
-          (λ d. fresh-not u (pagesFrom m P N (n - 1) (m (footer p)) q) p f (fresh o ps) (rw (step-out n m P N p q w l d .1) at a) e y))
-
-  -- a walk that ends is never without steps
-  pub log-never : (o ps v : List ℕ) (r : Bool) → n ≤ 0 → Marked o ps r v
-  unfolding walk
-  log-never o ps v r l = let z : n ≡ 0 = omega arith in no (rw z at w)
 
 -- The loop of `mark_table`: n file pages from i on are left; d is the data page that the code read at i.
 

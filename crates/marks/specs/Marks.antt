@@ -4,8 +4,10 @@ use Prim.Native.Nat.{ℕ, zero, suc, _+_}
 use mathlib.Core.Path.{_≡_}
 use mathlib.Core.Bool.{Bool, true, false, cond, _&&_}
 use mathlib.Core.List.{List, [], _∷_, _++_}
+use mathlib.Core.Option.{Option}
 use lib.Dec.{eqb}
 use lib.ListN.{set, getD}
+use Rattle.model.specs.Lists.{isSome, orElse}
 use Rattle.model.specs.Words.{Mem}
 use Rattle.model.specs.Layout.{inPages, isDirectory, filePages}
 use Rattle.model.specs.Log.{pages}
@@ -26,11 +28,19 @@ marked u (p ∷ ps) = marked (set u p 1) ps
 unfoldable pub unmarked : List ℕ → ℕ → ℕ → ℕ → Bool
 unmarked u P N p = inPages P N p && eqb (getD u p 0) 0
 
--- What a function that marks the pages ps answers, r, and the marks v that it leaves of the marks u. Where the answer is
--- no, nothing is said of the marks.
-pub record Marked (u ps : List ℕ) (r : Bool) (v : List ℕ) : Type 0 where
-  pub answer : r ≡ fresh u ps
+-- What a judgement answers, r, of which `ok` says whether it is good, and that marks the pages ps; v are the marks that it leaves of the
+-- marks u. Where the answer is no, nothing is said of the marks.
+pub record Judged (ok : Bool) (u ps : List ℕ) (r : Bool) (v : List ℕ) : Type 0 where
+  pub answer : r ≡ ok && fresh u ps
   pub list : r ≡ true → v ≡ marked u ps
+
+-- The same where there is nothing to judge but the marks.
+abbrev pub Marked : List ℕ → List ℕ → Bool → List ℕ → Type 0
+Marked u ps r v = Judged true u ps r v
+
+-- The same of a walk through the pages o of a log: none where it does not end.
+abbrev pub Walked : Option (List ℕ) → List ℕ → Bool → List ℕ → Type 0
+Walked o u r v = Judged (isSome o) u (orElse o []) r v
 
 -- the data pages that n file pages from i on are mapped to; f gives the data page of a file page, 0 where it is unmapped
 unfoldable pub mappedBy : (ℕ → ℕ) → ℕ → ℕ → List ℕ

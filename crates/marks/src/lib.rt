@@ -2,55 +2,22 @@
 // serves; a page that it finds marked serves twice.
 ghost use mathlib.Core.Path.{_≡_};
 ghost use mathlib.Core.Bool.{true};
-ghost use mathlib.Core.List.{[]};
-ghost use Prim.Native.Nat.{_*_, _≤_, _<_};
+ghost use Prim.Native.Nat.{_≤_, _<_};
 ghost use lib.Dec.{eqb};
-ghost use lib.ListN.{length, set, getD};
-ghost use Rattle.model.specs.Lists.{isSome, orElse, all};
-ghost use Rattle.model.specs.Words.{word};
+ghost use lib.ListN.{set, getD};
+ghost use Rattle.model.specs.Lists.{all};
 ghost use Rattle.model.specs.Layout.{inPages};
-ghost use Rattle.model.specs.Log.{walk};
 ghost use Rattle.marks.specs.Marks.{Marked, mapped};
 
 // Marks page p, and answers whether it was not marked before.
 // Example: of marks that are all 0 take_page(marks, 5) is true, and after it take_page(marks, 5) is false.
-fn take_page(marks: &mut [u8; 4096], p: usize) -> bool
+pub fn take_page(marks: &mut [u8; 4096], p: usize) -> bool
     requires { ⌜ p < 4096 ⌝ }
     ensures { λ r. ⌜ (r ≡ eqb (getD (now (marks .entry)) p 0) 0) × (now (marks .exit) ≡ set (now (marks .entry)) p 1) ⌝ }
 {
     let x = marks[p];
     marks[p] = 1;
     x == 0
-}
-
-// Marks the pages of a log, from its head through the footers to its last page, and answers whether none of them was
-// marked before. v is the volume; the walk is known to end.
-// Example: where the footer of page 5 leads to page 9, mark_log(v, 5, 9, 16, 8, marks) marks 5 and 9.
-pub fn mark_log(
-    v: &[u8],
-    head: usize,
-    last: usize,
-    pages: usize,
-    inodes: usize,
-    marks: &mut [u8; 4096],
-) -> bool
-    requires { ⌜ (isSome (walk (word (now v)) pages inodes pages head last) ≡ true) × (512 * pages ≤ length (now v)) × (pages ≤ 4096) ⌝ }
-    ensures { λ r. ⌜ Marked (now (marks .entry)) (orElse (walk (word (now (v .entry))) pages inodes pages head last) []) r
-        (now (marks .exit)) ⌝ }
-{
-    let mut p = head;
-    let mut fuel = pages;
-    while 0 < fuel {
-        if !take_page(marks, p) {
-            return false;
-        }
-        if p == last {
-            return true;
-        }
-        p = words::word_at(v, layout::footer(p)) as usize;
-        fuel = fuel - 1;
-    }
-    true
 }
 
 // Reads the data page of file page i from a table, and answers it: 0 where file page i is unmapped.

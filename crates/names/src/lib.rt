@@ -5,10 +5,11 @@ ghost use mathlib.Core.Bool.{true, _&&_};
 ghost use Prim.Native.Nat.{_+_, _*_, _≤_, _<_};
 ghost use lib.ListN.{length, getD, set, take};
 ghost use lib.Dec.{eqb};
-ghost use Rattle.model.specs.Lists.{allBelow, all};
+ghost use Rattle.model.specs.Lists.{allBelow, all, isSome};
 ghost use Rattle.model.specs.Words.{word};
 ghost use Rattle.model.specs.Layout.{isDirectory};
 ghost use Rattle.model.specs.Journal.{view};
+ghost use Rattle.model.specs.Log.{logPages};
 ghost use Rattle.model.specs.State.{namesOf};
 ghost use Rattle.model.specs.Accept.{logOk, namesOk};
 ghost use Rattle.log.specs.Ready.{Ready};
@@ -144,8 +145,8 @@ pub fn names_ok(v: &[u8], places: &[u16; 224], count: usize, inodes: usize) -> b
     all_marked(v, &marks, inodes)
 }
 
-// Puts the places of the names of directory d into a table, and answers how many; not good where its log or its names are not as an
-// accepted volume has them.
+// Puts the places of the names of directory d into a table, and answers how many. The walk of its log is known to end. Not good where its
+// entries or its names are not as an accepted volume has them.
 // Example: of a volume just formatted accepted_names(v, 0, pages, inodes, places) is good and has 0 names, and is not good once word 72,
 // the valid word of inode 1, is 1: that file has no name.
 pub fn accepted_names(
@@ -156,7 +157,7 @@ pub fn accepted_names(
     places: &mut [u16; 224],
 ) -> Named
     requires { ⌜ Ready (word (now v)) (length (now v)) pages inodes × (isDirectory (view (word (now v))) d ≡ true)
-        × (length (now places) ≡ 224) ⌝ }
+        × (isSome (logPages (view (word (now v))) pages inodes d) ≡ true) × (length (now places) ≡ 224) ⌝ }
     ensures { λ r. ⌜ Folds (word (now (v .entry))) (length (now (v .entry)))
         (logOk (view (word (now (v .entry)))) pages inodes d
         && namesOk (view (word (now (v .entry)))) inodes (namesOf (view (word (now (v .entry)))) pages inodes d))

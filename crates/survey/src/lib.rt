@@ -2,7 +2,7 @@
 // The tables are lent: `places` gets the names of the directory that the caller names, as places of their entries, and `marks` a 1 for
 // each page in use. No accepted volume overflows them.
 ghost use mathlib.Core.Path.{_≡_};
-ghost use mathlib.Core.Bool.{true};
+ghost use mathlib.Core.Bool.{true, false};
 ghost use lib.ListN.{length, replicate};
 ghost use Rattle.model.specs.Words.{word};
 ghost use Rattle.model.specs.Layout.{isDirectory};
@@ -17,6 +17,17 @@ pub struct Found {
     pub names: usize,
 }
 
+// Answers that a volume is not accepted.
+// Example: not_accepted().accepted is false.
+fn not_accepted() -> Found
+    ensures { λ r. ⌜ r .accepted ≡ false ⌝ }
+{
+    Found {
+        accepted: false,
+        names: 0,
+    }
+}
+
 // Judges a volume, puts the places of the names of directory d into a table and marks the pages in use; marks must be zeros. Answers
 // whether the volume is accepted, and how many names directory d has. Where it is not accepted, the tables hold anything.
 // Example: of a volume just formatted judge(v, 0, places, marks) answers that it is accepted and has 0 names.
@@ -28,20 +39,17 @@ pub fn judge(v: &[u8], d: usize, places: &mut [u16; 224], marks: &mut [u8; 4096]
 {
     let sizes = Sizes::of(v);
     if !journal::journal_ok(v, sizes.inodes as u64) {
-        return Found {
-            accepted: false,
-            names: 0,
-        };
+        return not_accepted();
+    }
+    if !inodes::judge_root(v, sizes.pages, sizes.inodes, marks) {
+        return not_accepted();
     }
     let named = names::accepted_names(v, d, sizes.pages, sizes.inodes, places);
     if !named.good {
-        return Found {
-            accepted: false,
-            names: 0,
-        };
+        return not_accepted();
     }
     Found {
-        accepted: inodes::judge_pages(v, sizes.pages, sizes.inodes, marks),
+        accepted: inodes::judge_files(v, sizes.pages, sizes.inodes, marks),
         names: named.count,
     }
 }

@@ -99,12 +99,7 @@ fn journal_positions() {
 /// The sample with these open entries from a dequeue position on.
 fn with_open(dequeue: u64, entries: &[(u64, u64)]) -> Vec<u8> {
     let mut volume = sample();
-    set_word(&mut volume, 8, dequeue);
-    set_word(&mut volume, 9, (dequeue + entries.len() as u64) % 16);
-    for (&(target, old), position) in entries.iter().zip(dequeue..) {
-        set_word(&mut volume, 16 + 2 * (position % 16), target);
-        set_word(&mut volume, 17 + 2 * (position % 16), old);
-    }
+    open_journal(&mut volume, dequeue, entries);
     volume
 }
 

@@ -100,7 +100,22 @@ pub fn put_log(volume: &mut [u8], inode: u64, pages: &[u64], entries: &[[u64; 8]
         );
     }
     for two in pages.windows(2) {
-        set_word(volume, two[0] * 64 + 56, two[1]);
+        set_word(volume, footer_word(two[0]), two[1]);
+    }
+}
+
+/// The word of a log page that holds the next one.
+pub(crate) fn footer_word(page: u64) -> u64 {
+    page * 64 + 56
+}
+
+/// Opens the journal by hand: these target words with their old values, from a dequeue position on.
+pub fn open_journal(volume: &mut [u8], dequeue: u64, entries: &[(u64, u64)]) {
+    set_word(volume, 8, dequeue);
+    set_word(volume, 9, (dequeue + entries.len() as u64) % 16);
+    for (&(target, old), position) in entries.iter().zip(dequeue..) {
+        set_word(volume, 16 + 2 * (position % 16), target);
+        set_word(volume, 17 + 2 * (position % 16), old);
     }
 }
 

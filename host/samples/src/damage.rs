@@ -1,5 +1,6 @@
 //! Damage: single bits and single words changed, mostly where a judge of the volume looks.
 
+use crate::by_hand::footer_word;
 use crate::numbers::any_number;
 use reference::layout::{head_word, set_word, tail_word, valid_word, word};
 use reference::random::Random;
@@ -48,10 +49,10 @@ fn end_words(volume: &Volume<'_>) -> Vec<u64> {
 }
 
 /// The links that a walk reads: those of every log page but each log's last.
-fn link_words(volume: &Volume<'_>) -> Vec<u64> {
+pub(crate) fn link_words(volume: &Volume<'_>) -> Vec<u64> {
     let left_behind = |log: &Log| log.pages[..log.pages.len().saturating_sub(1)].to_vec();
     let pages = volume.logs.values().flat_map(left_behind);
-    pages.map(|page| page * 64 + 56).collect()
+    pages.map(footer_word).collect()
 }
 
 /// The words of each entry that stands before a tail, up to the last word that is read.
@@ -59,7 +60,7 @@ fn entry_words<'a>(volume: &'a Volume<'_>) -> impl Iterator<Item = std::ops::Ran
     let starts = |log: &Log| -> Vec<u64> {
         let end = |page: u64| match page == log.tail / 512 {
             true => log.tail / 8,
-            false => page * 64 + 56,
+            false => footer_word(page),
         };
         let pages = log.pages.iter();
         pages

@@ -14,9 +14,9 @@ use Rattle.directory.proofs.index_names.Tie as tie
 
 abbrev Inv-loop : tie.InvT-loop
 Inv-loop v inodes index₀ most end pages c₀ count₀ left₀ index c count left =
-    let rest = wordsFrom left (word v) (c .at) end in
-    let all-words = wordsFrom left₀ (word v) (c₀ .at) end in
-    Going (word v) (length v) pages left (c .at) end × Slots (length v) index × (length index ≡ length index₀) × (most + 1 < length index)
+    let rest = wordsFrom left (word v) (c .place) end in
+    let all-words = wordsFrom left₀ (word v) (c₀ .place) end in
+    Going (word v) (length v) pages left (c .place) end × Slots (length v) index × (length index ≡ length index₀) × (most + 1 < length index)
     × (count ≡ taken index) × (count ≤ most)
     × (all (nameEntryOk inodes) (map (entryAt (word v)) rest) ≡ all (nameEntryOk inodes) (map (entryAt (word v)) all-words))
     × (indexOf (word v) index rest ≡ indexOf (word v) index₀ all-words)

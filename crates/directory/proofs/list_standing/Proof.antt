@@ -11,8 +11,8 @@ use Rattle.directory.proofs.list_standing.Tie as tie
 
 abbrev Inv-loop : tie.InvT-loop
 Inv-loop v index table₀ end pages c₀ count₀ left₀ table c count left =
-    Going (word v) (length v) pages left (c .at) end × (length table ≡ 224) × (count ≤ 224)
-    × (take count table ++ placesOf (word v) index (wordsFrom left (word v) (c .at) end) ≡ placesOf (word v) index (wordsFrom left₀ (word v) (c₀ .at) end))
+    Going (word v) (length v) pages left (c .place) end × (length table ≡ 224) × (count ≤ 224)
+    × (take count table ++ placesOf (word v) index (wordsFrom left (word v) (c .place) end) ≡ placesOf (word v) index (wordsFrom left₀ (word v) (c₀ .place) end))
 
 abbrev μ-loop : tie.MeasureT-loop
 μ-loop v index table₀ end pages c₀ count₀ left₀ table c count left = left

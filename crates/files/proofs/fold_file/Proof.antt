@@ -14,9 +14,9 @@ use Rattle.files.proofs.fold_file.Tie as tie
 
 abbrev Inv-loop : tie.InvT-loop
 Inv-loop v inodes table₀ end pages c₀ size₀ left₀ table c size left =
-    let rest = entriesFrom left (word v) (c .at) end in
-    let whole = entriesFrom left₀ (word v) (c₀ .at) end in
-    (512 * pages ≤ length v) × (pages ≤ 4096) × (length table ≡ 128) × (within left (word v) pages (c .at) end ≡ true)
+    let rest = entriesFrom left (word v) (c .place) end in
+    let whole = entriesFrom left₀ (word v) (c₀ .place) end in
+    (512 * pages ≤ length v) × (pages ≤ 4096) × (length table ≡ 128) × (within left (word v) pages (c .place) end ≡ true)
     × (all (fileEntryOk pages inodes) rest ≡ all (fileEntryOk pages inodes) whole)
     × (foldl fileStep (fileFrom size table) rest ≡ foldl fileStep (fileFrom 0 table₀) whole)
 
@@ -33,6 +33,7 @@ fold-file-spec =
     (λ c. search needs)
     (λ c. search (fold-done, needs))
     (λ c κs. search (step-here, step-there, step-low, needs))
+    (λ c. search needs)
     (λ c κs. search needs)
     (λ c. search (all-bad, needs))
     (λ c κs. search (passed, needs))

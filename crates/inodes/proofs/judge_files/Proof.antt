@@ -1,9 +1,10 @@
--- The loop's invariant: the inodes below k are good, and the marks are those of their pages.
+-- The loop's invariant: the inodes below k are good, and the marks are those of their pages; pages that are marked once serve once.
 use Rattle.model.proofs.Prelude.{_-_, _≤_, _<_, needs}
 use Rattle.model.specs.Words.{word}
 use Rattle.model.specs.Journal.{view}
 use Rattle.inodes.specs.Judged.{Below}
 use Rattle.inodes.proofs.Inodes.{files-next, files-not, files-done}
+use Rattle.inodes.proofs.Once.{served}
 use Rattle.inodes.proofs.judge_files.Statement.{statement}
 use Rattle.inodes.proofs.judge_files.Tie as tie
 
@@ -21,8 +22,8 @@ judge-files-spec =
     μ-loop
     (λ c. search needs)
     (λ c κs. search needs)
-    (λ c. search (files-not, needs))
+    (λ c. search (served, files-not, needs))
     (λ c. search needs)
     (λ c. search needs)
     (λ c. search (files-next, needs))
-    (λ c. search (files-done, needs)))
+    (λ c. search (served, files-done, needs)))

@@ -1,6 +1,6 @@
--- Each answer is one case of the definition, by the valid word.
+-- Each answer is one case of the definition, by the valid word; then the walk decides.
 use Rattle.model.proofs.Prelude.{needs}
-use Rattle.inodes.proofs.Cases.{log-some, root-bad, root-is}
+use Rattle.inodes.proofs.Cases.{root-bad, root-is}
 use Rattle.inodes.proofs.judge_root.Statement.{statement}
 use Rattle.inodes.proofs.judge_root.Tie as tie
 
@@ -11,5 +11,5 @@ judge-root-spec =
     (λ c κs. search needs)
     (λ c κs. search needs)
     (λ c. search (root-bad, needs))
-    (λ c κs. search (log-some, needs))
+    (λ c κs. search needs)
     (λ c. search (root-is, needs)))

@@ -1,6 +1,6 @@
 -- Each answer is one case of the definition: at a footer or not.
 use Rattle.model.proofs.Prelude.{needs}
-use Rattle.log.proofs.Facts.{landed-next, landed-here, landed-fits}
+use Rattle.log.proofs.Facts.{landed-next, landed-here, landed-page, landed-place}
 use Rattle.log.proofs.land.Statement.{statement}
 use Rattle.log.proofs.land.Tie as tie
 
@@ -10,6 +10,7 @@ land-spec =
     (tie.spec
     (λ c. search needs)
     (λ c κs. search needs)
-    (λ c. search (landed-fits, needs))
+    (λ c. search (landed-page, needs))
+    (λ c. search (landed-place, needs))
     (λ c. search (landed-next, needs))
     (λ c. search (landed-here, needs)))

@@ -68,6 +68,7 @@ pub struct Compared<'a> {
     volume: Lent<u8>,
     counts: &'a mut Counts,
     last: Option<Answer>,
+    title: String,
 }
 
 impl<'a> Compared<'a> {
@@ -79,7 +80,18 @@ impl<'a> Compared<'a> {
             volume,
             counts,
             last: None,
+            title: String::new(),
         }
+    }
+
+    /// The same volume with a title, which begins the message where a call is wrong.
+    pub fn titled(self, title: String) -> Compared<'a> {
+        Compared { title, ..self }
+    }
+
+    /// The title, for a message.
+    pub fn title(&self) -> &str {
+        &self.title
     }
 
     /// What the last call answered, compiled and by the model.
@@ -96,8 +108,10 @@ impl<'a> Compared<'a> {
         compiled: Answer,
         expected: Answer,
     ) {
-        assert_eq!(compiled, expected, "{call}({arguments})");
-        assert!(self.volume.holds(self.bytes), "{call} changed the volume");
+        let title = &self.title;
+        assert_eq!(compiled, expected, "{title}{call}({arguments})");
+        let unchanged = self.volume.holds(self.bytes);
+        assert!(unchanged, "{title}{call} changed the volume");
         self.counts.count(call, expected);
         self.last = Some(expected);
     }

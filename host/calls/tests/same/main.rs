@@ -17,3 +17,4 @@ mod lists;
 mod made_up;
 mod noise;
 mod shapes;
+mod wide_pages;
