@@ -1,32 +1,37 @@
 -- The cases of the loops over positions: at one position the list of the run is its first target and the run of the next.
-use Rattle.model.proofs.Prelude.{ℕ, zero, suc, _-_, _≤_, _<_, _≡_, refl, sym, _∙_, Bool, true, false, not, [], _∷_, arith, sub-one, eq-eqb, ne-eqb, not-true, not-false}
+use Rattle.model.proofs.Prelude.{ℕ, zero, suc, _-_, _≤_, _<_, _≡_, refl, sym, _∙_, Bool, true, false, not, List, [], _∷_, arith, sub-one, eq-eqb, ne-eqb, not-true, not-false}
 use Rattle.model.specs.Lists.{all, has, distinct}
-use Rattle.model.specs.Words.{Mem}
+use Rattle.model.specs.Words.{Mem, word}
 use Rattle.model.specs.Journal.{dequeueWord, targetWord, oldWord, nextPosition, positions, openCount, openPositions, openTargets, putBack, view, targetOk}
 use Rattle.journal.specs.Targets.{targets}
 use Rattle.journal.proofs.Views.{open-targets}
 
--- The loop of `viewed`: n positions from i on are left to put back; x is what the code read.
+-- the word w of which the code read x is word y
+pub read-at : (v : List ℕ) (w x y : ℕ) → x ≡ word v w → w ≡ y → x ≡ word v y
+read-at v w x y e h = rw (← h) e
 
-module _ (m : Mem) (w : ℕ) where
-  pub back-start : (n d x : ℕ) → n ≡ openCount m → d ≡ x → x ≡ m dequeueWord → putBack (positions n d) m w ≡ view m w
+-- The loop of `viewed_from`: n positions from i on are left to put back; t is the target that the code read at position i.
+
+module _ (v : List ℕ) (w : ℕ) where
+  pub back-start : (n d x : ℕ) → n ≡ openCount (word v) → d ≡ x → x ≡ word v dequeueWord → putBack (positions n d) (word v) w ≡ view (word v) w
   unfolding view openPositions
   back-start n d x k h e = rw (k, h ∙ e)
 
-  pub back-here : (n i t x z : ℕ) → putBack (positions n i) m w ≡ z → 0 < n → t ≡ m (targetWord i) → t ≡ w → x ≡ m (oldWord i) → x ≡ z
+  pub back-here : (n i t x z : ℕ) → putBack (positions n i) (word v) w ≡ z → 0 < n → t ≡ word v (targetWord i) → t ≡ w → x ≡ oldWord i → word v x ≡ z
   unfolding positions putBack
   back-here zero i t x z a l e h k = absurd (omega arith)
-  back-here (suc n) i t x z a l e h k = k ∙ (rw (eq-eqb w (m (targetWord i)) (sym h ∙ e)) at a)
+  back-here (suc n) i t x z a l e h k = rw k (rw (eq-eqb w (word v (targetWord i)) (sym h ∙ e)) at a)
 
-  pub back-next : (n i j t z : ℕ) → putBack (positions n i) m w ≡ z → 0 < n → t ≡ m (targetWord i) → (t ≡ w → ⊥) → j ≡ nextPosition i → putBack (positions (n - 1) j) m w ≡ z
+  pub back-next : (n i j t z : ℕ) → putBack (positions n i) (word v) w ≡ z → 0 < n → t ≡ word v (targetWord i) → (t ≡ w → ⊥) → j ≡ nextPosition i
+      → putBack (positions (n - 1) j) (word v) w ≡ z
   unfolding positions putBack
   back-next zero i j t z a l e h s = absurd (omega arith)
-  back-next (suc n) i j t z a l e h s = rw (sub-one, s) (rw (ne-eqb w (m (targetWord i)) (λ y. h (e ∙ sym y))) at a)
+  back-next (suc n) i j t z a l e h s = rw (sub-one, s) (rw (ne-eqb w (word v (targetWord i)) (λ y. h (e ∙ sym y))) at a)
 
-  pub back-end : (n i x z : ℕ) → putBack (positions n i) m w ≡ z → n ≤ 0 → x ≡ m w → x ≡ z
+  pub back-end : (n i z : ℕ) → putBack (positions n i) (word v) w ≡ z → n ≤ 0 → word v w ≡ z
   unfolding positions putBack
-  back-end zero i x z a l e = e ∙ a
-  back-end (suc n) i x z a l e = absurd (omega arith)
+  back-end zero i z a l = a
+  back-end (suc n) i z a l = absurd (omega arith)
 
 -- The loops over targets: x is the target that the code read at position i, j the next position, r what a callee answered.
 

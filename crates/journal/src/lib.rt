@@ -59,14 +59,23 @@ pub fn target_at(v: &[u8], p: Position) -> u64
     words::word_at(v, 16 + 2 * at)
 }
 
+// Answers the word in which a position keeps the old value of its target.
+// Example: old_word(Position::new(3)) is 23.
+fn old_word(p: Position) -> usize
+    requires { ⌜ p .at < 16 ⌝ }
+    ensures { λ r. ⌜ r ≡ oldWord (p .at) ⌝ }
+{
+    let at = p.at as usize;
+    17 + 2 * at
+}
+
 // Reads the old value that a position keeps, and answers it.
 // Example: where word 23 is 1088, old_at(v, Position::new(3)) is 1088.
 pub fn old_at(v: &[u8], p: Position) -> u64
     requires { ⌜ (p .at < 16) × (512 ≤ length (now v)) ⌝ }
     ensures { λ r. ⌜ r ≡ word (now (v .entry)) (oldWord (p .at)) ⌝ }
 {
-    let at = p.at as usize;
-    words::word_at(v, 17 + 2 * at)
+    words::word_at(v, old_word(p))
 }
 
 // Answers how many entries are open: from the dequeue position up to the enqueue position.
@@ -89,6 +98,26 @@ pub fn is_open(v: &[u8]) -> bool
     0 < open_count(v)
 }
 
+// Answers the word from which the view of word w is read: the one that keeps its old value where an open entry has it as target, else w
+// itself.
+// Example: where the one open entry stands at position 3 and has target 66, viewed_from(v, 66) is 23 and viewed_from(v, 65) is 65.
+fn viewed_from(v: &[u8], w: usize) -> usize
+    requires { ⌜ (word (now v) dequeueWord < 16) × (word (now v) enqueueWord < 16) × (512 ≤ length (now v))
+        × (8 * w + 8 ≤ length (now v)) ⌝ }
+    ensures { λ r. ⌜ (word (now (v .entry)) r ≡ view (word (now (v .entry))) w) × (8 * r + 8 ≤ length (now (v .entry))) ⌝ }
+{
+    let mut p = Position::new(words::word_at(v, layout::DEQUEUE_WORD));
+    let mut left = open_count(v);
+    while 0 < left {
+        if target_at(v, p) == (w as u64) {
+            return old_word(p);
+        }
+        p = p.next();
+        left = left - 1;
+    }
+    w
+}
+
 // Reads the view of a word, its value with the open entries put back, and answers it. It is for the words of inodes: a
 // word past the inode table reads as it stands (proofs/Views.antt, `view-raw`).
 // Example: where the one open entry has target 66 and old value 0, viewed(v, 66) is 0 and viewed(v, 65) is word 65.
@@ -97,16 +126,7 @@ pub fn viewed(v: &[u8], w: usize) -> u64
         × (8 * w + 8 ≤ length (now v)) ⌝ }
     ensures { λ r. ⌜ r ≡ view (word (now (v .entry))) w ⌝ }
 {
-    let mut p = Position::new(words::word_at(v, layout::DEQUEUE_WORD));
-    let mut left = open_count(v);
-    while 0 < left {
-        if target_at(v, p) == (w as u64) {
-            return old_at(v, p);
-        }
-        p = p.next();
-        left = left - 1;
-    }
-    words::word_at(v, w)
+    words::word_at(v, viewed_from(v, w))
 }
 
 // Answers whether t is a target of one of count positions from a position on.
