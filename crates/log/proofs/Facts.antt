@@ -1,11 +1,10 @@
 -- The cases of the functions' answers: each kind of an entry, each way in which a step lands, each page number that is read.
-use Rattle.model.proofs.Prelude.{ℕ, _+_, _*_, _-_, _/_, _%_, _≤_, _<_, _≡_, sym, _∙_, ap, List, arith, le-refl, add-zero, length, take, drop, length-drop, take-all, eq-eqb, ne-eqb, lt-ltb, le-ltb}
+use Rattle.model.proofs.Prelude.{ℕ, _+_, _*_, _-_, _/_, _%_, _≤_, _<_, _≡_, sym, _∙_, ap, true, false, List, arith, le-refl, add-zero, length, take, drop, length-drop, take-all, eq-eqb, ne-eqb, lt-ltb, le-ltb}
 use Rattle.model.specs.Words.{Mem, word}
 use Rattle.model.specs.Layout.{inPages}
 use Rattle.model.proofs.Words.{word-drop}
 use Rattle.log.specs.Entries.{nameIn, entryIn}
 use Rattle.log.specs.Steps.{landing, stepAt}
-use Rattle.log.specs.Found.{narrowed}
 use Rattle.log.specs.declared.Name.{Name}
 use Rattle.log.specs.declared.Entry.{Entry}
 use Rattle.log.specs.declared.Entry.the-variants.{Write, SetSize, Add, Remove, None}
@@ -72,14 +71,14 @@ is-step v from p e g h = let w : 64 * p ≡ 8 * (8 * p) = omega arith in rw (h, 
 
 -- the page number that is read
 module _ (P N x : ℕ) where
-  pub narrow-low : x ≤ N / 8 → 0 ≡ narrowed P N x
-  unfolding narrowed inPages
-  narrow-low h = rw (le-ltb (N / 8) x h)
+  pub page-below : x ≤ N / 8 → false ≡ inPages P N x
+  unfolding inPages
+  page-below h = rw (le-ltb (N / 8) x h)
 
-  pub narrow-high : N / 8 < x → P ≤ x → 0 ≡ narrowed P N x
-  unfolding narrowed inPages
-  narrow-high g h = rw (lt-ltb (N / 8) x g, le-ltb x P h)
+  pub page-behind : N / 8 < x → P ≤ x → false ≡ inPages P N x
+  unfolding inPages
+  page-behind g h = rw (lt-ltb (N / 8) x g, le-ltb x P h)
 
-  pub narrow-here : N / 8 < x → x < P → x ≡ narrowed P N x
-  unfolding narrowed inPages
-  narrow-here g h = rw (lt-ltb (N / 8) x g, lt-ltb x P h)
+  pub page-here : N / 8 < x → x < P → true ≡ inPages P N x
+  unfolding inPages
+  page-here g h = rw (lt-ltb (N / 8) x g, lt-ltb x P h)

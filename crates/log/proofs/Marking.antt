@@ -1,12 +1,11 @@
 -- The walk that marks: what its turns that are left answer of the marks so far is what the whole walk answers of the marks at first.
-use Rattle.model.proofs.Prelude.{ℕ, zero, suc, _-_, _/_, _≤_, _<_, _≡_, refl, sym, _∙_, Bool, true, false, not, List, [], _∷_, Option, none, some, arith, sub-one, eqb, getD, set, eq-eqb, ne-eqb, le-ltb, not-true, not-false}
+use Rattle.model.proofs.Prelude.{ℕ, zero, suc, _-_, _≤_, _<_, _≡_, refl, sym, _∙_, Bool, true, false, not, List, [], _∷_, Option, none, some, arith, sub-one, eqb, getD, set, eq-eqb, ne-eqb, not-true, not-false}
 use Rattle.model.specs.Words.{Mem}
 use Rattle.model.specs.Layout.{footer, inPages}
 use Rattle.model.specs.Log.{walk, onto}
 use Rattle.model.proofs.Tests.{by-bool, by-eq, no}
 use Rattle.model.proofs.Frame.Placed.{in-bounds}
 use Rattle.marks.specs.Marks.{fresh, marked, Walked}
-use Rattle.log.specs.Found.{narrowed}
 
 -- whatever is answered and left of a walk o with the marks u is answered and left of the walk o₀ with the marks u₀
 pub record Onward (o : Option (List ℕ)) (u : List ℕ) (o₀ : Option (List ℕ)) (u₀ : List ℕ) : Type 0 where
@@ -35,37 +34,20 @@ module _ (p : ℕ) (u v : List ℕ) (f : Bool) (e : f ≡ eqb (getD u p 0) 0) (s
   onto-not none n = record { answer = refl; list = λ y. no y }
   onto-not (some ps) n = record { answer = rw (sym e ∙ not-true f n); list = λ y. no y }
 
--- Page numbers as the walk has them.
-module _ (P N : ℕ) where
-  zero-out : inPages P N 0 ≡ false
-  unfolding inPages
-  zero-out = rw (le-ltb (N / 8) 0 (omega arith))
+-- A page is below P.
+pub page-bound : (P N x : ℕ) → inPages P N x ≡ true → x ≤ P - 1
+page-bound P N x i = let b = in-bounds P N x i in omega arith
 
-  narrow-in : (x : ℕ) → inPages P N x ≡ true → narrowed P N x ≡ x
-  unfolding narrowed
-  narrow-in x i = rw i
+-- A number x that `is_page` was asked, and what it answered, g.
+module _ (P N x : ℕ) (g : Bool) (e : g ≡ inPages P N x) where
+  pub page-in : not g ≡ false → inPages P N x ≡ true
+  page-in y = sym e ∙ not-false g y
 
-  narrow-out : (x : ℕ) → inPages P N x ≡ false → narrowed P N x ≡ 0
-  unfolding narrowed
-  narrow-out x i = rw i
+  page-out : not g ≡ true → inPages P N x ≡ false
+  page-out y = sym e ∙ not-true g y
 
-  narrow-some : (x r : ℕ) → r ≡ narrowed P N x → (r ≡ 0 → ⊥) → (r ≡ x) × (inPages P N r ≡ true)
-  narrow-some x r e z =
-      by-bool (inPages P N x)
-      (λ i. let s : r ≡ x = e ∙ narrow-in x i in (s, rw s i))
-      (λ i. absurd (z (e ∙ narrow-out x i)))
-
-  -- a page number stays what it is
-  pub narrow-twice : (x r : ℕ) → r ≡ narrowed P N x → r ≡ narrowed P N r
-  narrow-twice x r e =
-      by-eq r 0 (λ z. rw z (sym (narrow-out 0 zero-out)))
-      (λ z. sym (narrow-in r (narrow-some x r e z .1)))
-
-  -- and is below P, or 0
-  pub narrow-below : (x r : ℕ) → r ≡ narrowed P N x → r ≤ P - 1
-  narrow-below x r e =
-      by-eq r 0 (λ z. omega arith)
-      (λ z. let b = in-bounds P N r (narrow-some x r e z .1) in omega arith)
+  pub page-fits : not g ≡ false → x ≤ P - 1
+  page-fits y = page-bound P N x (page-in y)
 
 module _ (m : Mem) (P N : ℕ) where
   -- a walk from a page that is none, or to one, does not end
@@ -92,49 +74,44 @@ module _ (m : Mem) (P N : ℕ) where
   walk-next zero p q i l d = absurd (omega arith)
   walk-next (suc n) p q i l d = rw (walk, i, ne-eqb p q d, sub-one)
 
-  walk-narrow : (n x q : ℕ) → walk m P N n (narrowed P N x) q ≡ walk m P N n x q
-  walk-narrow n x q =
-      by-bool (inPages P N x) (λ i. rw (narrow-in P N x i))
-      (λ i. rw (narrow-out P N x i, walk-out n 0 q (zero-out P N), walk-out n x q i))
+  -- The whole walk, from the head h to the tail's page q, with the marks u: g is what `is_page` answered of one of them.
+  module _ (h q : ℕ) (u : List ℕ) where
+    pub walk-no-end : (g : Bool) → g ≡ inPages P N q → not g ≡ true → Walked (walk m P N P h q) u false u
+    walk-no-end g e y = not-walked (walk m P N P h q) u u (never-there P h q (page-out P N q g e y))
 
-  narrow-end : (n p x : ℕ) → walk m P N n p (narrowed P N x) ≡ walk m P N n p x
-  narrow-end n p x =
-      by-bool (inPages P N x) (λ i. rw (narrow-in P N x i))
-      (λ i. rw (narrow-out P N x i, never-there n p 0 (zero-out P N), never-there n p x i))
+    pub walk-no-head : (g : Bool) → g ≡ inPages P N h → not g ≡ true → Walked (walk m P N P h q) u false u
+    walk-no-head g e y = not-walked (walk m P N P h q) u u (walk-out P h q (page-out P N h g e y))
 
-  -- The whole walk: p and q are what `narrow_page` answered of the head h and of the tail's page x.
-  pub start-walk : (h x p q : ℕ) (u : List ℕ) → p ≡ narrowed P N h → q ≡ narrowed P N x → Onward (walk m P N P p q) u (walk m P N P h x) u
-  start-walk h x p q u g e = record { whole = λ r v w. rw (g, e, narrow-end P (narrowed P N h) x, walk-narrow P h x) at w }
+    -- what is left of the walk before its first turn is the whole of it
+    pub walk-starts : Onward (walk m P N P h q) u (walk m P N P h q) u
+    walk-starts = record { whole = λ r v w. w }
 
   -- The loop: n turns are left, from page p to page q, with the marks u; v and f are as above.
   module _ (n p q : ℕ) (u u₀ : List ℕ) (o₀ : Option (List ℕ)) (on : Onward (walk m P N n p q) u o₀ u₀) where
-    pub walk-nowhere : p ≡ 0 → Walked o₀ u₀ false u
-    walk-nowhere z = on .whole false u (not-walked (walk m P N n p q) u u (rw z (walk-out n 0 q (zero-out P N))))
-
     pub walk-spent : n ≤ 0 → Walked o₀ u₀ false u
     unfolding walk
     walk-spent l = let z : n ≡ 0 = omega arith in on .whole false u (not-walked (walk m P N n p q) u u (rw z))
 
-    module _ (e : p ≡ narrowed P N p) (z : p ≡ 0 → ⊥) (l : 0 < n) (v : List ℕ) (f : Bool) (g : f ≡ eqb (getD u p 0) 0) (s : v ≡ set u p 1) where
-      inside : inPages P N p ≡ true
-      inside = narrow-some P N p p e z .1
-
+    module _ (i : inPages P N p ≡ true) (l : 0 < n) (v : List ℕ) (f : Bool) (g : f ≡ eqb (getD u p 0) 0) (s : v ≡ set u p 1) where
       pub walk-taken : not f ≡ true → Walked o₀ u₀ false v
       walk-taken y =
           on .whole false v
           (by-eq p q
-          (λ d. rw (walk-last n p q inside l d) (onto-not p u v f g s (some []) y))
-          (λ d. rw (walk-next n p q inside l d) (onto-not p u v f g s (walk m P N (n - 1) (m (footer p)) q) y)))
+          (λ d. rw (walk-last n p q i l d) (onto-not p u v f g s (some []) y))
+          (λ d. rw (walk-next n p q i l d) (onto-not p u v f g s (walk m P N (n - 1) (m (footer p)) q) y)))
 
       pub walk-done : not f ≡ false → p ≡ q → Walked o₀ u₀ true v
-      walk-done y d = on .whole true v (rw (walk-last n p q inside l d) (last-walked p u v f g s y))
+      walk-done y d = on .whole true v (rw (walk-last n p q i l d) (last-walked p u v f g s y))
 
-      pub walk-turn : (a x r : ℕ) → not f ≡ false → (p ≡ q → ⊥) → a ≡ footer p → x ≡ m a → r ≡ narrowed P N x
-          → Onward (walk m P N (n - 1) r q) v o₀ u₀
-      walk-turn a x r y d i j k =
-          record {
-            whole =
-                λ b w h.
-                let t : walk m P N (n - 1) r q ≡ walk m P N (n - 1) (m (footer p)) q = rw (k, j, i) (walk-narrow (n - 1) (m (footer p)) q) in
-                on .whole b w (rw (walk-next n p q inside l d) (onto-walked p u v f g s (walk m P N (n - 1) (m (footer p)) q) b w y (rw t at h)));
-          }
+      -- x is the footer that the code read, at word a
+      module _ (y : not f ≡ false) (d : p ≡ q → ⊥) (a x : ℕ) (j : a ≡ footer p) (k : x ≡ m a) where
+        onto-rest : walk m P N n p q ≡ onto p (walk m P N (n - 1) x q)
+        onto-rest = rw (k, j) (walk-next n p q i l d)
+
+        pub walk-lost : (b : Bool) → b ≡ inPages P N x → not b ≡ true → Walked o₀ u₀ false v
+        walk-lost b e z =
+            let o = not-walked (walk m P N (n - 1) x q) v v (walk-out (n - 1) x q (page-out P N x b e z)) in
+            on .whole false v (rw onto-rest (onto-walked p u v f g s (walk m P N (n - 1) x q) false v y o))
+
+        pub walk-turn : Onward (walk m P N (n - 1) x q) v o₀ u₀
+        walk-turn = record { whole = λ b w h. on .whole b w (rw onto-rest (onto-walked p u v f g s (walk m P N (n - 1) x q) b w y h)) }

@@ -1,5 +1,5 @@
 -- A log read from the raw memory is the log of the view: its pages lie past the inode table, where both have the same words.
-use Rattle.model.proofs.Prelude.{ℕ, zero, suc, _+_, _*_, _/_, _%_, _≤_, _<_, _≡_, refl, sym, Bool, true, false, List, [], map, Option, none, some, arith, ne-eqb}
+use Rattle.model.proofs.Prelude.{ℕ, zero, suc, _+_, _*_, _/_, _%_, _≤_, _<_, _≡_, refl, sym, Bool, true, false, not, List, [], map, Option, none, some, arith, ne-eqb}
 use Rattle.model.specs.Lists.{isSome, orElse}
 use Rattle.model.specs.Words.{Mem}
 use Rattle.model.specs.Layout.{headWord, tailWord, footer, inPages}
@@ -17,7 +17,7 @@ use Rattle.marks.specs.Marks.{fresh, marked, Walked}
 use Rattle.log.specs.Ready.{Ready}
 use Rattle.log.specs.Steps.{wordsFrom, entriesFrom}
 use Rattle.log.specs.Found.{LogOf}
-use Rattle.log.proofs.Marking.{not-walked}
+use Rattle.log.proofs.Marking.{not-walked, walk-no-end, walk-no-head}
 use Rattle.log.proofs.Reading.{startOf, wordsOf, Read, read}
 use Rattle.log.proofs.Places.{log-apart, log-placed}
 
@@ -91,18 +91,29 @@ module _ (m : Mem) (L P N k b t : ℕ) (ready : Ready m L P N) (y : b ≡ tailWo
   pub round-tail : (u : List ℕ) → (t ≡ 0 → ⊥) → t % 512 ≡ 0 → Walked (logPages (view m) P N k) u false u
   round-tail u z f = wrong-tail u z (λ k. let s = tail-slots t k in omega arith)
 
-  -- h is the head that the code read
-  module _ (a h : ℕ) (x : a ≡ headWord k) (g : h ≡ view m a) where
-    head-is : h ≡ view m (headWord k)
-    head-is = rw (g, x)
-
-    pub log-walk : (u v : List ℕ) (r : Bool) → (t ≡ 0 → ⊥) → t % 64 ≡ 0 → (t % 512 ≡ 0 → ⊥) → Walked (walk m P N P h (t / 512)) u r v
-        → Walked (logPages (view m) P N k) u r v
+  -- A tail that is right.
+  module _ (z : t ≡ 0 → ⊥) (e : t % 64 ≡ 0) (f : t % 512 ≡ 0 → ⊥) where
+    walk-is : walk m P N P (view m (headWord k)) (t / 512) ≡ logPages (view m) P N k
     unfolding pagesOf
-    log-walk u v r z e f w =
+    walk-is =
         let o : tailOk t ≡ true = tail-ok t (t % 512 / 64) (omega arith) (omega arith) (omega arith) in
-        let q : walk m P N P h (t / 512) ≡ logPages (view m) P N k = rw (ne-eqb t 0 z, o, ← head-is) at pages-are in
-        rw q at w
+        rw (ne-eqb t 0 z, o) at pages-are
+
+    -- g is what `is_page` answered of the tail's page
+    pub last-out : (g : Bool) (u : List ℕ) → g ≡ inPages P N (t / 512) → not g ≡ true → Walked (logPages (view m) P N k) u false u
+    last-out g u d y = rw (← walk-is) (walk-no-end m P N (view m (headWord k)) (t / 512) u g d y)
+
+    -- h is the head that the code read
+    module _ (a h : ℕ) (x : a ≡ headWord k) (d : h ≡ view m a) where
+      head-is : h ≡ view m (headWord k)
+      head-is = rw (d, x)
+
+      -- g is what `is_page` answered of it
+      pub head-out : (g : Bool) (u : List ℕ) → g ≡ inPages P N h → not g ≡ true → Walked (logPages (view m) P N k) u false u
+      head-out g u c y = rw (← walk-is, ← head-is) (walk-no-head m P N h (t / 512) u g c y)
+
+      pub log-walk : (u v : List ℕ) (r : Bool) → Walked (walk m P N P h (t / 512)) u r v → Walked (logPages (view m) P N k) u r v
+      log-walk u v r w = rw (← walk-is, ← head-is) w
 
   -- A log whose walk is known to end.
   module _ (s : isSome (logPages (view m) P N k) ≡ true) where

@@ -1,22 +1,16 @@
--- An inode's log: its page numbers as the walk carries them, and what its steps meet: the model's entries, at words of which none comes
--- twice.
+-- An inode's log, and what its steps meet: the model's entries, at words of which none comes twice.
 use Prim.Native.Nat.{ℕ, _*_, _%_, _≤_}
 use mathlib.Core.Path.{_≡_}
-use mathlib.Core.Bool.{Bool, true, cond, _&&_}
+use mathlib.Core.Bool.{Bool, true, _&&_}
 use mathlib.Core.List.{List}
 use lib.Dec.{eqb, leb}
 use Rattle.model.specs.Lists.{all, distinct}
 use Rattle.model.specs.Words.{Mem}
-use Rattle.model.specs.Layout.{inPages}
 use Rattle.model.specs.Entry.{Entry as Full}
 use Rattle.model.specs.Journal.{view}
 use Rattle.model.specs.Log.{entries}
 use Rattle.log.specs.Steps.{wordsFrom, entriesFrom, within}
 use Rattle.log.specs.declared.Log.{Log}
-
--- a number that a volume with P pages and N inodes holds, as a page number: 0 where it names no log or data page
-unfoldable pub narrowed : ℕ → ℕ → ℕ → ℕ
-narrowed P N x = cond (inPages P N x) x 0
 
 -- the first words of a log's entries, and these entries
 abbrev pub logWords : Mem → Log → List ℕ

@@ -8,13 +8,14 @@ ghost use Prim.Native.Nat.{_+_, _*_, _≤_, _<_};
 ghost use lib.ListN.{length};
 ghost use Rattle.model.specs.Lists.{isSome};
 ghost use Rattle.model.specs.Words.{word};
+ghost use Rattle.model.specs.Layout.{inPages};
 ghost use Rattle.model.specs.Journal.{view};
 ghost use Rattle.model.specs.Log.{walk, logPages};
 ghost use Rattle.marks.specs.Marks.{Walked};
 ghost use Rattle.log.specs.Entries.{nameIn, entryIn};
 ghost use Rattle.log.specs.Steps.{landing, stepAt};
 ghost use Rattle.log.specs.Ready.{Ready};
-ghost use Rattle.log.specs.Found.{narrowed, LogOf};
+ghost use Rattle.log.specs.Found.{LogOf};
 
 // Where a reader of a log stands, as a place: an entry, or the footer after a page's last entry. A place is a word index divided by 8.
 pub struct Cursor {
@@ -65,45 +66,45 @@ pub struct Log {
     pub pages: u16,
 }
 
-// Answers a number that the volume holds as a page number of 16 bits: 0 where it names no log or data page, as page 0 is none. The number
-// is judged before it is narrowed.
-// Example: with 64 pages and 8 inodes narrow_page(5, 64, 8) is 5, and narrow_page(1, 64, 8), narrow_page(64, 64, 8) and
-// narrow_page(65541, 64, 8) are 0.
-fn narrow_page(x: u64, pages: usize, inodes: usize) -> u16
-    requires { ⌜ pages ≤ 4096 ⌝ }
-    ensures { λ r. ⌜ r ≡ narrowed pages inodes x ⌝ }
+// Answers whether a number that the volume holds is the number of a log or data page. It is judged as the 64-bit number that it is; only
+// a number that is found good may be narrowed.
+// Example: with 64 pages and 8 inodes is_page(5, 64, 8) is true, and is_page(1, 64, 8), is_page(64, 64, 8) and is_page(65541, 64, 8) are
+// false.
+fn is_page(x: u64, pages: usize, inodes: usize) -> bool
+    ensures { λ r. ⌜ r ≡ inPages pages inodes x ⌝ }
 {
     if x <= (inodes / 8) as u64 {
-        return 0;
+        return false;
     }
     if (pages as u64) <= x {
-        return 0;
+        return false;
     }
-    x as u16
+    true
 }
 
 // Walks through a log, from page head through the footers to page last, and marks its pages. Answers whether the walk ends, inside the
-// log and data pages, and none of its pages was marked before. Where last is no log or data page, the answer is false.
+// log and data pages, and none of its pages was marked before. The head is known to be a log or data page; each footer is judged before it
+// is narrowed.
 // Example: of marks that are all 0, where the footer of page 10 is 12, walk(v, 10, 12, 64, 8, marks) marks 10 and 12 and is true; where it
 // is 10, 64 or 65548, it is false.
-fn walk(v: &[u8], head: u64, last: u64, pages: usize, inodes: usize, marks: &mut [u8; 4096]) -> bool
-    requires { ⌜ (512 * pages ≤ length (now v)) × (pages ≤ 4096) ⌝ }
+fn walk(v: &[u8], head: u16, last: u16, pages: usize, inodes: usize, marks: &mut [u8; 4096]) -> bool
+    requires { ⌜ (512 * pages ≤ length (now v)) × (pages ≤ 4096) × (inPages pages inodes head ≡ true) ⌝ }
     ensures { λ r. ⌜ Walked (walk (word (now (v .entry))) pages inodes pages head last) (now (marks .entry)) r (now (marks .exit)) ⌝ }
 {
-    let stop = narrow_page(last, pages, inodes);
-    let mut p = narrow_page(head, pages, inodes);
+    let mut p = head;
     let mut left = pages as u16;
     while 0 < left {
-        if p == 0 {
-            return false;
-        }
         if !marks::take_page(marks, p as usize) {
             return false;
         }
-        if p == stop {
+        if p == last {
             return true;
         }
-        p = narrow_page(words::word_at(v, layout::footer(p as usize)), pages, inodes);
+        let next = words::word_at(v, layout::footer(p as usize));
+        if !is_page(next, pages, inodes) {
+            return false;
+        }
+        p = next as u16;
         left = left - 1;
     }
     false
@@ -111,6 +112,7 @@ fn walk(v: &[u8], head: u64, last: u64, pages: usize, inodes: usize, marks: &mut
 
 // Walks through the log of inode k, whose head and tail are read with the journal's open entries put back, and marks its pages. Answers
 // whether its tail is right, its walk ends and none of its pages was marked before. An empty log has no pages, and its head is not read.
+// Head and tail's page are judged before they are narrowed.
 // Example: of marks that are all 0, where inode 3 has head 10 and tail 5248, mark_log(v, 3, 64, 8, marks) marks page 10 and is true; where
 // its tail is 5120, it is false, since no entry of page 10 stands before that tail.
 pub fn mark_log(v: &[u8], k: usize, pages: usize, inodes: usize, marks: &mut [u8; 4096]) -> bool
@@ -127,8 +129,15 @@ pub fn mark_log(v: &[u8], k: usize, pages: usize, inodes: usize, marks: &mut [u8
     if tail % 512 == 0 {
         return false;
     }
+    let last = tail / 512;
+    if !is_page(last, pages, inodes) {
+        return false;
+    }
     let head = journal::viewed(v, layout::head_word(k));
-    walk(v, head, tail / 512, pages, inodes, marks)
+    if !is_page(head, pages, inodes) {
+        return false;
+    }
+    walk(v, head as u16, last as u16, pages, inodes, marks)
 }
 
 // Answers the log of inode k, whose walk is known to end, so that the places at which it starts and ends fit 16 bits. Head and tail are
