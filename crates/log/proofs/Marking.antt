@@ -40,13 +40,13 @@ page-bound P N x i = let b = in-bounds P N x i in omega arith
 
 -- A number x that `is_page` was asked, and what it answered, g.
 module _ (P N x : ℕ) (g : Bool) (e : g ≡ inPages P N x) where
-  pub page-in : not g ≡ false → inPages P N x ≡ true
-  page-in y = sym e ∙ not-false g y
+  pub page-in : g ≡ true → inPages P N x ≡ true
+  page-in y = sym e ∙ y
 
-  page-out : not g ≡ true → inPages P N x ≡ false
-  page-out y = sym e ∙ not-true g y
+  page-out : g ≡ false → inPages P N x ≡ false
+  page-out y = sym e ∙ y
 
-  pub page-fits : not g ≡ false → x ≤ P - 1
+  pub page-fits : g ≡ true → x ≤ P - 1
   page-fits y = page-bound P N x (page-in y)
 
 module _ (m : Mem) (P N : ℕ) where
@@ -76,10 +76,10 @@ module _ (m : Mem) (P N : ℕ) where
 
   -- The whole walk, from the head h to the tail's page q, with the marks u: g is what `is_page` answered of one of them.
   module _ (h q : ℕ) (u : List ℕ) where
-    pub walk-no-end : (g : Bool) → g ≡ inPages P N q → not g ≡ true → Walked (walk m P N P h q) u false u
+    pub walk-no-end : (g : Bool) → g ≡ inPages P N q → g ≡ false → Walked (walk m P N P h q) u false u
     walk-no-end g e y = not-walked (walk m P N P h q) u u (never-there P h q (page-out P N q g e y))
 
-    pub walk-no-head : (g : Bool) → g ≡ inPages P N h → not g ≡ true → Walked (walk m P N P h q) u false u
+    pub walk-no-head : (g : Bool) → g ≡ inPages P N h → g ≡ false → Walked (walk m P N P h q) u false u
     walk-no-head g e y = not-walked (walk m P N P h q) u u (walk-out P h q (page-out P N h g e y))
 
     -- what is left of the walk before its first turn is the whole of it
@@ -108,7 +108,7 @@ module _ (m : Mem) (P N : ℕ) where
         onto-rest : walk m P N n p q ≡ onto p (walk m P N (n - 1) x q)
         onto-rest = rw (k, j) (walk-next n p q i l d)
 
-        pub walk-lost : (b : Bool) → b ≡ inPages P N x → not b ≡ true → Walked o₀ u₀ false v
+        pub walk-lost : (b : Bool) → b ≡ inPages P N x → b ≡ false → Walked o₀ u₀ false v
         walk-lost b e z =
             let o = not-walked (walk m P N (n - 1) x q) v v (walk-out (n - 1) x q (page-out P N x b e z)) in
             on .whole false v (rw onto-rest (onto-walked p u v f g s (walk m P N (n - 1) x q) false v y o))

@@ -1,5 +1,5 @@
 -- A log read from the raw memory is the log of the view: its pages lie past the inode table, where both have the same words.
-use Rattle.model.proofs.Prelude.{ℕ, zero, suc, _+_, _*_, _/_, _%_, _≤_, _<_, _≡_, refl, sym, Bool, true, false, not, List, [], map, Option, none, some, arith, ne-eqb}
+use Rattle.model.proofs.Prelude.{ℕ, zero, suc, _+_, _*_, _/_, _%_, _≤_, _<_, _≡_, refl, sym, Bool, true, false, List, [], map, Option, none, some, arith, ne-eqb}
 use Rattle.model.specs.Lists.{isSome, orElse}
 use Rattle.model.specs.Words.{Mem}
 use Rattle.model.specs.Layout.{headWord, tailWord, footer, inPages}
@@ -100,7 +100,7 @@ module _ (m : Mem) (L P N k b t : ℕ) (ready : Ready m L P N) (y : b ≡ tailWo
         rw (ne-eqb t 0 z, o) at pages-are
 
     -- g is what `is_page` answered of the tail's page
-    pub last-out : (g : Bool) (u : List ℕ) → g ≡ inPages P N (t / 512) → not g ≡ true → Walked (logPages (view m) P N k) u false u
+    pub last-out : (g : Bool) (u : List ℕ) → g ≡ inPages P N (t / 512) → g ≡ false → Walked (logPages (view m) P N k) u false u
     last-out g u d y = rw (← walk-is) (walk-no-end m P N (view m (headWord k)) (t / 512) u g d y)
 
     -- h is the head that the code read
@@ -109,7 +109,7 @@ module _ (m : Mem) (L P N k b t : ℕ) (ready : Ready m L P N) (y : b ≡ tailWo
       head-is = rw (d, x)
 
       -- g is what `is_page` answered of it
-      pub head-out : (g : Bool) (u : List ℕ) → g ≡ inPages P N h → not g ≡ true → Walked (logPages (view m) P N k) u false u
+      pub head-out : (g : Bool) (u : List ℕ) → g ≡ inPages P N h → g ≡ false → Walked (logPages (view m) P N k) u false u
       head-out g u c y = rw (← walk-is, ← head-is) (walk-no-head m P N h (t / 512) u g c y)
 
       pub log-walk : (u v : List ℕ) (r : Bool) → Walked (walk m P N P h (t / 512)) u r v → Walked (logPages (view m) P N k) u r v

@@ -101,11 +101,12 @@ fn walk(v: &[u8], head: u16, last: u16, pages: usize, inodes: usize, marks: &mut
             return true;
         }
         let next = words::word_at(v, layout::footer(p as usize));
-        if !is_page(next, pages, inodes) {
+        if is_page(next, pages, inodes) {
+            p = next as u16;
+            left = left - 1;
+        } else {
             return false;
         }
-        p = next as u16;
-        left = left - 1;
     }
     false
 }
@@ -130,14 +131,14 @@ pub fn mark_log(v: &[u8], k: usize, pages: usize, inodes: usize, marks: &mut [u8
         return false;
     }
     let last = tail / 512;
-    if !is_page(last, pages, inodes) {
+    if is_page(last, pages, inodes) {
+        let head = journal::viewed(v, layout::head_word(k));
+        if is_page(head, pages, inodes) {
+            return walk(v, head as u16, last as u16, pages, inodes, marks);
+        }
         return false;
     }
-    let head = journal::viewed(v, layout::head_word(k));
-    if !is_page(head, pages, inodes) {
-        return false;
-    }
-    walk(v, head as u16, last as u16, pages, inodes, marks)
+    false
 }
 
 // Answers the log of inode k, whose walk is known to end, so that the places at which it starts and ends fit 16 bits. Head and tail are

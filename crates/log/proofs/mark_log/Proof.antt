@@ -15,15 +15,15 @@ mark-log-spec =
     (λ c. search (odd-tail, needs))
     (λ c. search (round-tail, needs))
     (λ c κs. search)
-    (λ c. search (last-out, needs))
     (λ c κs. search needs)
     (λ c κs. search needs)
     (λ c κs. search)
-    (λ c. search (head-out, needs))
-    (λ c. let fits = page-fits _ _ _ _ (c .before .is-page2 .ensures) (c .if5 .left) in search needs)
+    (λ c. let fits = page-fits _ _ _ _ (c .before .is-page2 .ensures) (c .if5 .taken) in search needs)
     (λ c.
     let right = c .before .before .before .before in
-    let fits = page-fits _ _ _ _ (right .before .is-page .ensures) (right .if4 .left) in
+    let fits = page-fits _ _ _ _ (right .before .is-page .ensures) (right .if4 .taken) in
     search needs)
-    (λ c κs. (search needs, search needs, page-in _ _ _ _ (c .before .before .is-page2 .ensures) (c .before .if5 .left)))
-    (λ c. search (log-walk, needs)))
+    (λ c κs. (search needs, search needs, page-in _ _ _ _ (c .before .before .is-page2 .ensures) (c .before .if5 .taken)))
+    (λ c. search (log-walk, needs))
+    (λ c. search (head-out, needs))
+    (λ c. search (last-out, needs)))
