@@ -1,11 +1,11 @@
--- The end of a file: a loop that goes down from n asks of the last of n numbers, and then of those below it; and a word is 0 exactly if its
--- eight bytes are, so that bytes are asked by words.
-use Rattle.model.proofs.Prelude.{ℕ, zero, suc, _+_, _*_, _-_, _/_, _%_, _≤_, _<_, _≡_, refl, sym, _∙_, Bool, true, false, not, cond, or-true, List, arith, add-zero, zero-div, sub-one, getD, eqb, eq-eqb, ne-eqb, eqb-true, le-ltb, lt-ltb}
+-- The end of a file: file pages are asked one after the other from the first that starts behind the size; of numbers a loop that goes down
+-- from n asks of the last of n, and then of those below it; and a word is 0 exactly if its eight bytes are, so that bytes are asked by words.
+use Rattle.model.proofs.Prelude.{ℕ, zero, suc, _+_, _*_, _-_, _/_, _%_, _≤_, _<_, _≡_, refl, sym, _∙_, Bool, true, false, not, _&&_, cond, or-true, List, arith, add-zero, zero-div, sub-one, getD, eqb, eq-eqb, ne-eqb, eqb-true, le-ltb, lt-ltb}
 use Rattle.model.specs.Words.{Mem, word, byteAt}
 use Rattle.model.specs.Lists.{allBelow}
 use Rattle.model.specs.State.{fileByte}
 use Rattle.model.specs.Accept.{endOk}
-use Rattle.model.proofs.Tests.{by-bool, same-test}
+use Rattle.model.proofs.Tests.{by-bool, by-eq, same-test}
 use Rattle.model.proofs.Lists.{allBelow-at, allBelow-by, allBelow-same}
 use Rattle.model.proofs.Words.{leFrom-same, byte-word}
 use Rattle.words.proofs.Cond.{asked-true, asked-false}
@@ -26,21 +26,30 @@ unfolding allBelow
 below-end f z zero a l = a
 below-end f z (suc n) a l = absurd (omega arith)
 
+-- what `unmapped_too` answers
+pub unmapped-too : (b : Bool) (d : ℕ) → d ≡ 0 → b ≡ b && eqb d 0
+unmapped-too b d z = by-bool b (λ h. rw (h, eq-eqb d 0 z)) (λ h. rw h)
+
+pub mapped-here : (b : Bool) (d : ℕ) → (d ≡ 0 → ⊥) → false ≡ b && eqb d 0
+mapped-here b d z = by-bool b (λ h. rw (h, ne-eqb d 0 z)) (λ h. rw h)
+
 -- The elements from w on are read, where w is the count of file pages that start below the size s.
-module _ (t : List ℕ) (s : ℕ) (z : Bool) (n w : ℕ) (a : startsOk t s n ≡ z) (q : w ≡ (s + 511) / 512) where
-  module _ (d : ℕ) (l : w < n) (e : d ≡ getD t (n - 1) 0) where
-    pub start-free : d ≡ 0 → startsOk t s (n - 1) ≡ z
-    unfolding startsOk
-    start-free f = below-next _ z n a (omega arith) (rw (eq-eqb (getD t (n - 1) 0) 0 (sym e ∙ f)))
-
-    pub start-bad : (d ≡ 0 → ⊥) → false ≡ z
-    unfolding startsOk
-    start-bad f =
-        below-not _ z n a (omega arith) (rw (ne-eqb (getD t (n - 1) 0) 0 (λ y. f (e ∙ y)), le-ltb (512 * (n - 1)) s (omega arith)))
-
-  pub start-end : n ≤ w → true ≡ z
+module _ (t : List ℕ) (s w : ℕ) (q : w ≡ (s + 511) / 512) where
+  pub start-first : true ≡ startsOk t s w
   unfolding startsOk
-  start-end l = sym (allBelow-by n _ (λ i h. rw (lt-ltb (512 * i) s (omega arith), or-true))) ∙ a
+  start-first = sym (allBelow-by w _ (λ i h. rw (lt-ltb (512 * i) s (omega arith), or-true)))
+
+  -- b is whether the first i are good, and r what `unmapped_too` answered
+  pub start-next : (i d : ℕ) (b r : Bool) → w ≤ i → d ≡ getD t i 0 → b ≡ startsOk t s i → r ≡ b && eqb d 0 → r ≡ startsOk t s (i + 1)
+  unfolding startsOk allBelow
+  start-next i d b r l e a h =
+      let p : i + 1 ≡ suc i = omega arith in
+      by-eq (getD t i 0) 0
+      (λ z. rw (p, eq-eqb (getD t i 0) 0 z) (h ∙ sym (unmapped-too b d (e ∙ z)) ∙ a))
+      (λ z. rw (p, ne-eqb (getD t i 0) 0 z, le-ltb (512 * i) s (omega arith)) (h ∙ sym (mapped-here b d (λ y. z (sym e ∙ y)))))
+
+pub start-end : (t : List ℕ) (s i : ℕ) (r : Bool) → r ≡ startsOk t s i → i ≤ 128 → 128 ≤ i → r ≡ startsOk t s 128
+start-end t s i r a h k = let p : i ≡ 128 = omega arith in rw p at a
 
 module _ (f : ℕ → ℕ) (b : ℕ) (z : Bool) (n : ℕ) (a : zerosAt f b n ≡ z) where
   module _ (x : ℕ) (l : 0 < n) (e : x ≡ f (b + (n - 1))) where

@@ -1,8 +1,9 @@
 // A file's state from its log: its size, and the data page of each of its 128 file pages, in a table; 0 is an unmapped
 // page. And whether a file ends as an accepted volume has it. v is the volume, k an inode other than the directory.
 ghost use mathlib.Core.Path.{_≡_};
-ghost use mathlib.Core.Bool.{true};
+ghost use mathlib.Core.Bool.{true, _&&_};
 ghost use Prim.Native.Nat.{_+_, _-_, _*_, _/_, _%_, _≤_, _<_};
+ghost use lib.Dec.{eqb};
 ghost use lib.ListN.{length, set, replicate, getD};
 ghost use Rattle.model.specs.Lists.{isSome};
 ghost use Rattle.model.specs.Words.{word, byteAt};
@@ -214,23 +215,32 @@ pub fn pages_below(size: usize) -> usize
     (size + 511) / 512
 }
 
+// Answers whether what was asked before is so, and a file page with data page d is unmapped.
+// Example: unmapped_too(true, 0) is true, and unmapped_too(true, 9) and unmapped_too(false, 0) are false.
+fn unmapped_too(before: bool, d: u64) -> bool
+    ensures { λ r. ⌜ r ≡ before && eqb d 0 ⌝ }
+{
+    if d == 0 {
+        return before;
+    }
+    false
+}
+
 // Answers whether every mapped page starts below the size: the table's elements from pages_below(size) on must be 0, and no
-// others are read.
+// others are read. The loop reads all of them, whatever it finds, so that the compiled code compares several at once.
 // Example: where elements 0 and 1 alone are not 0, starts_ok(table, 513) is true and starts_ok(table, 512) is false.
 fn starts_ok(table: &[u64; 128], size: usize) -> bool
     requires { ⌜ size ≤ 65536 ⌝ }
     ensures { λ r. ⌜ r ≡ startsOk (now (table .entry)) size 128 ⌝ }
 {
     let low = pages_below(size);
-    let mut n: usize = 128;
-    while low < n {
-        n = n - 1;
-        let d = get(table, n);
-        if d != 0 {
-            return false;
-        }
+    let mut i = low;
+    let mut ok = true;
+    while i < 128 {
+        ok = unmapped_too(ok, get(table, i));
+        i = i + 1;
     }
-    true
+    ok
 }
 
 // Answers whether count words from word w on are zero.
