@@ -1,7 +1,7 @@
 //! Every compiled call beside the reference model, on volumes of three sizes.
 
 use crate::table::{shown, whole, Table};
-use crate::timed_calls::{Timed, CALLS};
+use crate::timed_calls::{calls_on, Timed};
 use crate::timing::{largest_spread, Effort};
 use crate::volumes::{Kind, Subject};
 
@@ -37,7 +37,7 @@ pub fn times(kind: Kind, effort: Effort) -> Table {
     let rows = Vec::new();
     let mut table = Table { columns, rows };
     let subjects = PAGES.map(kind.make());
-    for call in CALLS {
+    for call in calls_on(kind) {
         table.texts(row(call, &subjects, effort));
     }
     table

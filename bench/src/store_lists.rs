@@ -1,7 +1,7 @@
 //! Stores, fences and bytes of the changing calls, counted in the store lists that the compiled calls fill.
 
 use crate::table::{shown, whole, Table};
-use crate::volumes::opened;
+use crate::volumes::{opened, Kind};
 use calls::list::groups;
 use calls::{Answer, Refusal};
 use reference::Call;
@@ -35,6 +35,11 @@ impl Counts {
             fences: groups.len() as u64,
             journal: indices().filter(|index| (16..48).contains(index)).count() as u64,
         }
+    }
+
+    /// The words of the list: two for each store and each fence.
+    fn words(&self) -> u64 {
+        2 * (self.stores + self.fences)
     }
 }
 
@@ -76,6 +81,7 @@ impl Shape {
 pub fn counted() -> Table {
     let mut table = Table::new(&[
         &"change",
+        &"words of the list",
         &"stores",
         &"bytes stored",
         &"of them in the journal",
@@ -89,6 +95,7 @@ pub fn counted() -> Table {
         let bytes = 8 * counts.stores;
         table.row(&[
             &shape.name,
+            &whole(counts.words()),
             &whole(counts.stores),
             &whole(bytes),
             &whole(8 * counts.journal),
@@ -107,6 +114,7 @@ pub fn counted() -> Table {
 fn shapes() -> Vec<Shape> {
     let mut shapes = naming_shapes();
     shapes.extend(write_shapes());
+    shapes.extend(scattered_shapes());
     shapes.extend(size_shapes());
     shapes.extend(upkeep_shapes());
     shapes
@@ -187,6 +195,26 @@ fn write_shapes() -> Vec<Shape> {
         }
     }
     shapes
+}
+
+/// Writes of 4,096 bytes at 1 where every second page is free: nine data pages in nine pieces, and two log pages.
+fn scattered_shapes() -> Vec<Shape> {
+    let subject = Kind::EverySecondFree.make()(PAGES);
+    let mut with_new = subject.volume.clone();
+    done(&mut with_new, &create(b"new"));
+    let new = calls::find(&with_new, b"new").expect("the name stands");
+    let shape = |log: &str, volume: Vec<u8>, file: u64| {
+        let name = format!("scattered write, 4,096 bytes in nine pieces, {log}");
+        let mut shape = Shape::new(&name, volume, move |volume, list| {
+            calls::write(volume, file, 1, &text(4_096), list)
+        });
+        shape.user = Some(4_096);
+        shape
+    };
+    vec![
+        shape("empty log", with_new, new),
+        shape("two new log pages", subject.volume, subject.file),
+    ]
 }
 
 /// Set size of a file of 4,096 bytes.
@@ -382,7 +410,7 @@ mod tests {
         ];
         for (call, words) in calls {
             let counts = Counts::of(&samples::filled(&volume, &call).expect("done"));
-            assert_eq!(2 * (counts.stores + counts.fences), words);
+            assert_eq!(counts.words(), words);
             done(&mut volume, &call);
         }
     }
@@ -395,6 +423,14 @@ mod tests {
         let counts = Counts::of(&list);
         assert_eq!((counts.stores, counts.lines, counts.fences), (5, 4, 2));
         assert_eq!(counts.journal, 3);
+    }
+
+    #[test]
+    fn scattered_writes_have_the_longest_lists_of_a_write() {
+        for shape in scattered_shapes() {
+            let counts = shape.counts().expect("done");
+            assert_eq!(counts.words(), 1_306, "{}", shape.name);
+        }
     }
 
     #[test]

@@ -1,7 +1,7 @@
 //! The calls that are timed, each written once for the compiled calls and the reference model.
 
 use crate::timing::{Effort, Time};
-use crate::volumes::Subject;
+use crate::volumes::{Kind, Subject};
 use calls::Refusal;
 use std::fmt::Debug;
 use std::hint::black_box;
@@ -14,6 +14,15 @@ pub struct Timed {
     pub name: &'static str,
     pub compiled: fn(&mut Subject, Effort) -> (String, Time),
     pub reference: fn(&mut Subject, Effort) -> (String, Time),
+}
+
+/// The calls that are timed on the volumes of a kind.
+pub fn calls_on(kind: Kind) -> impl Iterator<Item = &'static Timed> {
+    let more = match kind {
+        Kind::EverySecondFree => SCATTERED,
+        _ => &[],
+    };
+    CALLS.iter().chain(more)
 }
 
 /// The call with this name.
@@ -33,11 +42,11 @@ fn timed<T: Debug>(effort: Effort, mut call: impl FnMut() -> Result<T, Refusal>)
     (answer, time)
 }
 
-/// Makes the table of calls; `library` is the one crate and then the other.
+/// Makes a table of calls; `library` is the one crate and then the other.
 macro_rules! timed {
-    ($($name:ident: |$subject:ident, $library:ident| $call:expr;)*) => {
-        /// The calls, in the order of the tables.
-        pub const CALLS: &[Timed] = &[$(Timed {
+    ($(#[$about:meta])* $table:ident; $($name:ident: |$subject:ident, $library:ident| $call:expr;)*) => {
+        $(#[$about])*
+        const $table: &[Timed] = &[$(Timed {
             name: stringify!($name),
             compiled: |$subject, effort| {
                 use calls as $library;
@@ -52,6 +61,8 @@ macro_rules! timed {
 }
 
 timed! {
+    /// The calls that are timed on every volume, in the order of the tables.
+    CALLS;
     find: |on, library| library::find(&on.volume, &on.name);
     size: |on, library| library::size(&on.volume, on.inode);
     read: |on, library| library::read(&on.volume, on.file, 0, &mut on.buffer);
@@ -69,4 +80,30 @@ timed! {
     clean: |on, library| library::clean(&on.volume, on.file, &mut on.room);
     cleaned_names: |on, library| library::clean(&on.volume, 0, &mut on.room);
     recover: |on, library| library::recover(&on.open, &mut on.room);
+}
+
+timed! {
+    /// Timed where every second page is free: nine data pages in nine pieces and, since the log's last page is full, two log pages.
+    SCATTERED;
+    scattered_write: |on, library| library::write(&on.volume, on.file, 1, &on.buffer, &mut on.room);
+}
+
+#[cfg(test)]
+mod tests {
+    use super::*;
+
+    /// A list has two words for each store and each fence: 64 stores for a data page, 8 for an entry, two links and the tail; two fences.
+    #[test]
+    fn a_scattered_write_has_nine_pieces_and_two_log_pages() {
+        let words = 2 * (9 * 64 + 9 * 8 + 2 + 1 + 2);
+        let done = words.to_string();
+        for (pages, answer) in [(16, "refused 12"), (128, &*done), (4_096, &*done)] {
+            let mut subject = Kind::EverySecondFree.make()(pages);
+            for call in SCATTERED {
+                for library in [call.compiled, call.reference] {
+                    assert_eq!(library(&mut subject, Effort::QUICK).0, answer);
+                }
+            }
+        }
+    }
 }

@@ -8,12 +8,13 @@ use Rattle.model.specs.Stores.{oneWord, both, onlyIf}
 use Rattle.model.specs.Calls as calls
 use Rattle.model.specs.Calls.{layEntries, layPages, tailAfter, tailPages, besides, dataPages, appended, oldPages, oldSlots, freshPages, freshLog, prepared, newTail, ownChanges, pagesLeft}
 use Rattle.model.proofs.Tests.{by-eq, by-bool, and-right}
+use Rattle.model.proofs.Lists.{few-none}
 use Rattle.layout.specs.declared.Sizes.{Sizes}
 use Rattle.laying.specs.declared.Laid.{Laid}
 use Rattle.laying.specs.Laying.{pageOf, slotsAt, neededAt, freshFrom, pagesBehind, toLay, tailBehind, headBehind, leftBehind}
 use Rattle.laying.proofs.Steps.{no-need}
 use Rattle.append.specs.Appended.{oldTail, headOf}
-use Rattle.append.proofs.Taking.{few-none, few-split}
+use Rattle.append.proofs.Taking.{few-split}
 
 -- The append X: its log goes on or is written anew.
 module _ (u : Mem) (P : ℕ) (f : ℕ → Bool) (X : calls.Append) where

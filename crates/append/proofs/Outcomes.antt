@@ -1,5 +1,5 @@
 -- For callers: what an append comes to is what a call's action comes to, where entries, data and words to commit are the call's.
-use Rattle.model.proofs.Prelude.{ℕ, _+_, _*_, _/_, _%_, _≤_, _<_, _≡_, _∙_, ap, fun-ext, Bool, true, false, not, List, [], _∷_, _++_, Option, none, some, arith, zero-add, sub-zero, and-false, eqb, length, drop, eq-eqb, ne-eqb, lt-ltb, le-ltb}
+use Rattle.model.proofs.Prelude.{ℕ, _+_, _*_, _/_, _%_, _≤_, _<_, _≡_, _∙_, ap, fun-ext, Bool, true, false, not, List, [], _∷_, _++_, some, arith, zero-add, sub-zero, and-false, eqb, length, drop, eq-eqb, ne-eqb, lt-ltb, le-ltb}
 use Rattle.model.specs.Lists.{indexOf}
 use Rattle.model.specs.Words.{word}
 use Rattle.model.specs.Layout.{validWord, headWord, tailWord}
@@ -7,10 +7,11 @@ use Rattle.model.specs.Accept.{isValid, free}
 use Rattle.model.specs.Stores.{Stores, oneWord, noWords, both, onlyIf}
 use Rattle.model.specs.Answer.{done}
 use Rattle.model.specs.Calls as calls
-use Rattle.model.specs.Calls.{Change, layPages, lowestRun, runFrom, entriesOnly, dataPages, appended, oldPages, oldSlots, freshPages, freshLog, noRoom, prepared, newTail, ownChanges, pagesLeft, lacksRoom, allPrepared, allChanges, roomChecks, actionChecks, actionGroups}
+use Rattle.model.specs.Calls.{Change, layPages, lowestPages, entriesOnly, dataPages, appended, oldPages, oldSlots, freshPages, freshLog, noRoom, prepared, newTail, ownChanges, pagesLeft, lacksRoom, allPrepared, allChanges, roomChecks, actionChecks, actionGroups}
 use Rattle.model.proofs.Tests.{by-lt}
-use Rattle.model.proofs.Lists.{length-values}
 use Rattle.model.proofs.Frame.View.{root-valid}
+use Rattle.model.proofs.Calls.DataPages.{pages-few}
+use Rattle.model.proofs.Calls.Room.{free-bounds}
 use Rattle.inodes.specs.Judged.{Closed}
 use Rattle.stores.specs.Emitted.{Emitted}
 use Rattle.stores.specs.Added.{element}
@@ -33,8 +34,9 @@ all-first a ws e = rw (e, sub-zero)
 
 pub one-log-ready : (v b : List ℕ) (a : Append) (ws ds l : List ℕ) → Closed v b → a .second ≡ 0 → a .moved ≡ 0 → a .log < word v 1
     → isValid (word v) (a .log) ≡ true → a .other < word v 1 → (a .anew ≡ false → 0 < length ws / 8 + length ds / 64) → length ws < 4294967296
-    → 64 * (length ds / 64) ≡ length ds → 18 * (length ws / 8 + 1) + 2 * length ds + 44 ≤ length l → Ready v b a ws ds l
-one-log-ready v b a ws ds l c es em h val o entry few whole room =
+    → 64 * (length ds / 64) ≡ length ds → length ds / 64 ≤ 9 → a .file < 4294967296
+    → 18 * (length ws / 8 + length ds / 64) + 2 * length ds + 44 ≤ length l → Ready v b a ws ds l
+one-log-ready v b a ws ds l c es em h val o entry few whole nine file room =
     let n : 0 < word v 1 = omega arith in
     record {
       volume = c;
@@ -47,6 +49,8 @@ one-log-ready v b a ws ds l c es em h val o entry few whole room =
       some-entry = λ e. rw (all-first a ws em) (entry e);
       few = few;
       whole = whole;
+      nine = nine;
+      file = file;
       room = room;
     }
 
@@ -76,10 +80,6 @@ module _ (a : Append) where
 
 -- Data whose words are the same.
 
-run-long : (c : ℕ) (o : Option ℕ) → length (runFrom c o) ≤ c
-run-long c none = omega arith
-run-long c (some p) = omega (arith, length-values (λ i. i) p c)
-
 lay-same : (ps : List ℕ) (c : ℕ) (g h : ℕ → ℕ) → length ps ≤ c → ((j : ℕ) → j < 64 * c → g j ≡ h j) → layPages ps g ≡ layPages ps h
 unfolding layPages
 lay-same ps c g h l e =
@@ -96,7 +96,7 @@ module _ (v : List ℕ) (k : ℕ) (b : Bool) (es : List (List ℕ)) (i c z : ℕ
   outcome-words s cs =
       let u = word v in
       let f = free u (u 0) (u 1) in
-      rw (lay-same (runFrom c (lowestRun f (u 0) c)) c g h (run-long c (lowestRun f (u 0) c)) same)
+      rw (lay-same (lowestPages f (u 0) c) c g h (pages-few f (u 0) (λ p h. free-bounds u (u 0) (u 1) p h .1) c) same)
 
 -- words that were put at the start of a list
 pub comes-words : {l : List ℕ} {z : ℕ} {xs o : List ℕ} → Emitted l 0 xs z o → z ≤ length l → Comes (done xs) l (Number z) o

@@ -1,16 +1,19 @@
 -- The tail that a log goes on with, the parts of the first group beside the first log, and the words that commit it.
-use Rattle.model.proofs.Prelude.{ℕ, zero, suc, _+_, _*_, _-_, _/_, _≤_, _<_, _≡_, refl, sym, ap, _∙_, Bool, true, false, cond, _&&_, not, List, [], _∷_, _++_, append-nil, arith, add-one, add-zero, zero-add, eqb, length, getD, take, length-append, length-take-le, take-append-seam, eq-eqb, ne-eqb}
+use Rattle.model.proofs.Prelude.{ℕ, zero, suc, _+_, _*_, _-_, _/_, _≤_, _<_, _%_, _≡_, refl, sym, ap, _∙_, fun-ext, Bool, true, false, cond, _&&_, not, List, [], _∷_, _++_, append-nil, none, arith, add-one, add-zero, zero-add, eqb, length, getD, take, drop, drop-cons, drop-of-length-le, length-append, length-take-le, take-append-seam, eq-eqb, ne-eqb, lt-ltb, le-ltb}
 use Rattle.model.specs.Words.{Mem}
+use Rattle.model.specs.Lists.{indexOf}
 use Rattle.model.specs.Layout.{validWord, headWord, tailWord}
-use Rattle.model.specs.Stores.{oneWord, run}
-use Rattle.model.specs.Calls.{Change}
-use Rattle.model.proofs.Tests.{by-eq}
+use Rattle.model.specs.Stores.{Stores, oneWord, run, both}
+use Rattle.model.specs.Calls.{Change, layPages}
+use Rattle.model.proofs.Tests.{by-eq, by-lt, inside, outside}
 use Rattle.layout.specs.declared.Sizes.{Sizes}
 use Rattle.stores.specs.Emitted.{Emitted}
-use Rattle.stores.specs.Added.{Added, element}
+use Rattle.stores.specs.Added.{Added, Adding, element, elementFrom}
 use Rattle.stores.proofs.Emitting.{same-length, emitted-both, emitted-parts}
-use Rattle.stores.proofs.Groups.{added-both, added-if, added-not}
+use Rattle.stores.proofs.Groups.{added-both, added-none, added-if, added-not, adding-all, adding-next, slice-run}
 use Rattle.commit.specs.Commit.{changesFrom, changesOf}
+use Rattle.space.specs.Space.{ArePages}
+use Rattle.space.proofs.Taken.{page-below}
 use Rattle.entries.specs.Table.{entriesOf}
 use Rattle.entries.proofs.Entries.{length-entries}
 use Rattle.laying.specs.declared.Laid.{Laid}
@@ -59,11 +62,66 @@ module _ (l : List ℕ) (end : ℕ) (a : Append) where
   new-put i j e r m o f g h k x y =
       added-if l 0 end _ _ r o (rw (ne-eqb (a .other) 0 f, ne-eqb (a .valid) 0 g)) (added-both (rw h at x) (rw k at y))
 
+-- `put_data`: the words of the first page, and then those of the others.
+
+lay-first : (p : ℕ) (ps : List ℕ) (f g : ℕ → ℕ) → ((j : ℕ) → f (64 + j) ≡ g j) → layPages (p ∷ ps) f ≡ both (run (64 * p) 64 f) (layPages ps g)
+unfolding layPages both run indexOf
+lay-first p ps f g h =
+    fun-ext (λ w.
+    let j = indexOf (w / 64) ps in
+    by-eq (w / 64) p
+    (λ e.
+    let z : 64 * 0 + w % 64 ≡ w - 64 * p = omega arith in
+    rw (eq-eqb (w / 64) p e, lt-ltb 0 (length (p ∷ ps)) (omega arith), inside (64 * p) (64 * p + 64) w (omega arith) (omega arith), z))
+    (λ e.
+    rw (ne-eqb (w / 64) p e, outside (64 * p) (64 * p + 64) w (λ a b. e (omega arith)))
+    (by-lt j (length ps)
+    (λ l.
+    let z : 64 * (j + 1) + w % 64 ≡ 64 + (64 * j + w % 64) = omega arith in
+    rw (lt-ltb j (length ps) l, lt-ltb (j + 1) (length (p ∷ ps)) (omega arith), z, h))
+    (λ l. rw (le-ltb j (length ps) l, le-ltb (j + 1) (length (p ∷ ps)) (omega arith))))))
+
+pub page-fits : (ps : List ℕ) (i p : ℕ) → ArePages (length ps) ps → i < length ps → p ≡ getD ps i 0 → 64 * p < 18446744073709551616
+page-fits ps i p h l e = omega (arith, page-below ps (length ps) i p h l e)
+
+module _ (l : List ℕ) (end : ℕ) (ps ds : List ℕ) where
+  -- the data of the pages from the i-th on
+  abbrev dataFrom : ℕ → Stores
+  dataFrom i = layPages (drop i ps) (elementFrom ds (64 * i))
+
+  pub data-start : Adding l 0 end (layPages ps (element ds)) l end (dataFrom 0)
+  unfolding element elementFrom
+  data-start =
+      let e : elementFrom ds (64 * 0) ≡ element ds = fun-ext (λ j. ap (λ i. getD ds i 0) (zero-add j)) in
+      rw e (adding-all l 0 end (layPages ps (element ds)))
+
+  module _ (m : List ℕ) (e i : ℕ) (q : Adding l 0 end (layPages ps (element ds)) m e (dataFrom i)) where
+    -- the words of the i-th page are put, w being the first
+    pub data-next : (w r : ℕ) (o : List ℕ) → i < length ps → w ≡ 64 * getD ps i 0 → 64 * length ps ≤ length ds
+        → Added m 0 e (run w (length (take (64 * i + 64 - 64 * i) (drop (64 * i) ds))) (element (take (64 * i + 64 - 64 * i) (drop (64 * i) ds)))) r o
+        → Adding l 0 end (layPages ps (element ds)) o r (dataFrom (i + 1))
+    unfolding elementFrom
+    data-next w r o h ew room a =
+        let p = getD ps i 0 in
+        let k : 64 * i + 64 - 64 * i ≡ 64 = omega arith in
+        let d : drop i ps ≡ p ∷ drop (i + 1) ps = drop-cons ps i 0 h ∙ rw (add-one i) in
+        let s = lay-first p (drop (i + 1) ps) (elementFrom ds (64 * i)) (elementFrom ds (64 * (i + 1)))
+        (λ j. let z : 64 * i + (64 + j) ≡ 64 * (i + 1) + j = omega arith in ap (λ n. getD ds n 0) z) in
+        let t : dataFrom i ≡ both (run w 64 (elementFrom ds (64 * i))) (dataFrom (i + 1)) = rw (d, ew) s in
+        let b : Added m 0 e (run w 64 (elementFrom ds (64 * i))) r o = rw (← slice-run ds (64 * i) 64 w (omega arith)) (rw k at a) in
+        adding-next (rw t at q) b
+
+    pub data-done : length ps ≤ i → Added l 0 end (layPages ps (element ds)) e m
+    unfolding layPages indexOf
+    data-done h =
+        let z : dataFrom i ≡ (λ w. none) = rw (drop-of-length-le ps {i = i} h) in
+        q .rest (rw z (added-none m 0 e))
+
 -- `put_rest`
-pub rest-put : (l m o : List ℕ) (end e r t w h p : ℕ) (a : Append) (ds : List ℕ) → Added l 0 end (headOf (a .anew) (a .log) t h) e m → w ≡ 64 * p
-    → Added m 0 e (run w (length ds) (element ds)) r o → Added l 0 end (restOf a t h p ds) r o
+pub rest-put : (l m o : List ℕ) (end e r t h : ℕ) (a : Append) (ps ds : List ℕ) → Added l 0 end (headOf (a .anew) (a .log) t h) e m
+    → Added m 0 e (layPages ps (element ds)) r o → Added l 0 end (restOf a t h ps ds) r o
 unfolding restOf
-rest-put l m o end e r t w h p a ds x i y = added-both x (rw i at y)
+rest-put l m o end e r t h a ps ds x y = added-both x y
 
 -- `lay_second`
 module _ (b : List ℕ) (s : Sizes) (l : List ℕ) (g : Laid) (k : ℕ) (ws : List ℕ) where

@@ -1,29 +1,30 @@
 -- The whole append: where there are pages enough, the list is that of the definitions' action, and where not, the answer is 12.
-use Rattle.model.proofs.Prelude.{ℕ, zero, suc, _+_, _*_, _-_, _/_, _%_, _≤_, _<_, _≡_, refl, sym, ap, _∙_, fun-ext, Bool, true, false, cond, not, _||_, List, [], _∷_, _++_, ⊎-elim, Option, none, some, arith, add-zero, sub-zero, ltb, eqb, length, getD, take, drop, replicate, length-append, length-replicate, length-take-le, length-drop, take-all, eq-eqb, ne-eqb, lt-ltb, le-ltb, ltb-false, not-false}
-use Rattle.model.specs.Lists.{valuesFrom, allBelow, lowestFew, indexOf, has}
+use Rattle.model.proofs.Prelude.{ℕ, _+_, _*_, _-_, _/_, _≤_, _<_, _≡_, refl, sym, ap, _∙_, Bool, true, false, cond, not, _||_, List, [], _∷_, _++_, ⊎-elim, arith, add-zero, sub-zero, ltb, eqb, length, getD, take, drop, replicate, length-append, length-map, length-replicate, length-take-le, length-drop, take-all, eq-eqb, ne-eqb, le-ltb, ltb-false, not-false}
+use Rattle.model.specs.Lists.{lowestFew, indexOf, has}
 use Rattle.model.specs.Words.{Mem, word}
 use Rattle.model.specs.Layout.{headWord, tailWord}
-use Rattle.model.specs.Entry.{writeWords}
 use Rattle.model.specs.Stretches.{stretches}
 use Rattle.model.specs.Accept.{isValid, free}
 use Rattle.inodes.specs.Judged.{Closed}
-use Rattle.model.specs.Stores.{Stores, run, both, onlyIf, storeList}
+use Rattle.model.specs.Stores.{Stores, both, onlyIf, storeList}
 use Rattle.model.specs.Calls as calls
-use Rattle.model.specs.Calls.{layPages, stretchEntries, commit, entriesOnly, besides, lowestRun, dataPages, appended, freshPages, freshLog, noRoom, prepared, pagesLeft, lacksRoom, allPrepared, allChanges, roomChecks, actionChecks, actionGroups}
-use Rattle.model.proofs.Tests.{by-bool, by-eq, by-range, and-left, no as never, not-true-false, or-false}
-use Rattle.model.proofs.Lists.{length-values, values-at, values-in, values-distinct, index-getD, lowest-is, allBelow-at, few-length, few-holds, has-append, has-cons}
+use Rattle.model.specs.Calls.{layPages, stretchEntries, commit, entriesOnly, besides, lowestPages, dataPages, appended, freshPages, freshLog, noRoom, prepared, pagesLeft, lacksRoom, allPrepared, allChanges, roomChecks, actionChecks, actionGroups}
+use Rattle.model.proofs.Tests.{by-bool, by-eq, and-left, no as never, not-not, or-false}
+use Rattle.model.proofs.Lists.{few-length, few-holds, has-append, has-cons, has-getD}
 use Rattle.model.proofs.Log.Live.{lay-in}
-use Rattle.model.proofs.State.Stretches.{one-stretch}
-use Rattle.model.proofs.Crash.Stores.{Only, only-word, only-run, only-both, only-if}
-use Rattle.model.proofs.Calls.Room.{free-bounds, pages-off}
+use Rattle.model.proofs.State.Stretches.{stretches-some}
+use Rattle.model.proofs.Crash.Stores.{Only, only-word, only-both, only-if}
+use Rattle.model.proofs.Calls.DataPages.{pages-hold, pages-few, room-parts}
+use Rattle.model.proofs.Calls.Room.{free-bounds, pages-in}
 use Rattle.model.proofs.Calls.Actions.{both-none, one-room, one-prepared, one-changes, no-data, only-entries}
 use Rattle.layout.specs.declared.Sizes.{Sizes}
 use Rattle.stores.specs.Emitted.{Emitted}
 use Rattle.stores.specs.Added.{Added, element}
 use Rattle.stores.proofs.Groups.{added-both, group-of}
 use Rattle.commit.specs.Commit.{changesOf, Pairs, Committed}
-use Rattle.entries.specs.Table.{entriesOf}
-use Rattle.entries.proofs.Entries.{length-entries, one-entry, entries-take, entries-drop}
+use Rattle.entries.specs.Table.{entriesOf, Holds, dataPage}
+use Rattle.entries.proofs.Entries.{length-entries, entries-take, entries-drop}
+use Rattle.space.specs.Space.{ArePages, PagesTaken}
 use Rattle.space.proofs.Taken.{length-marked}
 use Rattle.answer.specs.Comes.{Comes}
 use Rattle.answer.specs.declared.Answer.the-variants.{Number, NoSpace}
@@ -31,44 +32,12 @@ use Rattle.laying.specs.declared.Laid.{Laid}
 use Rattle.laying.specs.Laying.{pageOf, slotsAt, neededAt, startAt, mayTake, freshFrom, pagesBehind, toLay, tailBehind, headBehind, Layable, LogLaid}
 use Rattle.laying.proofs.Steps.{no-need}
 use Rattle.append.specs.declared.Append.{Append}
-use Rattle.append.specs.declared.Room.{Room}
-use Rattle.append.specs.Appended.{oldTail, writes, dataTaken, logTaken, Taken, headOf, restOf, secondStores, SecondLaid, zeroed, pairsOf, alsoCommitted, committing, firstCount, asked, secondAsked, actionOf, outcome, Ready}
+use Rattle.append.specs.Appended.{oldTail, headOf, restOf, secondStores, SecondLaid, zeroed, pairsOf, alsoCommitted, committing, firstCount, asked, secondAsked, actionOf, outcome, Ready}
 use Rattle.append.proofs.Outcomes.{comes-words}
-use Rattle.append.proofs.Taking.{no-run, besides-none, few-both}
+use Rattle.append.proofs.Taking.{besides-none, few-both}
 use Rattle.append.proofs.Parts.{pairs-long, put-words, put-changes, committing-below, some-committed}
 use Rattle.append.proofs.Volumes.{closed-bytes, closed-sizes, closed-enqueue, closed-free, old-fine, old-apart}
 use Rattle.append.proofs.Logs.{fresh-is, log-prepared, log-changes, log-left}
-
--- Consecutive data pages are a run of words.
-lay-here : (p n : ℕ) (f : ℕ → ℕ) (w : ℕ) → 64 * p ≤ w → w < 64 * p + 64 * n → layPages (valuesFrom (λ i. i) p n) f w ≡ some (f (w - 64 * p))
-unfolding layPages
-lay-here p n f w g h =
-    let ps = valuesFrom (λ i. i) p n in
-    let i = w / 64 - p in
-    let l = length-values (λ i. i) p n in
-    let e : getD ps i 0 ≡ w / 64 = values-at (λ i. i) p n i (omega arith) ∙ (omega arith) in
-    let x : indexOf (w / 64) ps ≡ i = rw e at (index-getD ps i (values-distinct p n) (omega arith)) in
-    let k : 64 * i + w % 64 ≡ w - 64 * p = omega arith in
-    rw (x, l, lt-ltb i n (omega arith), k)
-
-lay-run : (p n : ℕ) (f : ℕ → ℕ) → layPages (valuesFrom (λ i. i) p n) f ≡ run (64 * p) (64 * n) f
-unfolding run
-lay-run p n f =
-    fun-ext (λ w.
-    by-range (64 * p) (64 * p + 64 * n) w
-    (λ e g h. rw e (lay-here p n f w g h))
-    (λ e g. rw e (pages-off (valuesFrom (λ i. i) p n) f w (not-true-false _ (λ t. let k = values-in p n (w / 64) t in g (omega arith) (omega arith))))))
-
--- the entry that maps c data pages from p on, if there are any
-write-entry : (file p c z : ℕ) → (0 < c → 0 < p)
-    → stretchEntries z (stretches (λ i. getD (valuesFrom (λ i. i) p c) (i - file) 0) c file)
-    ≡ entriesOf (take (8 * writes c) (writeWords file p c z)) 0 (length (take (8 * writes c) (writeWords file p c z)) / 8)
-unfolding stretches stretchEntries entriesOf writes writeWords
-write-entry file p zero z h = refl
-write-entry file p (suc c) z h =
-    let e = one-stretch (λ i. getD (valuesFrom (λ i. i) p (suc c)) (i - file) 0) (suc c) file p (omega arith) (h (omega arith))
-    (λ j l. let k : file + j - file ≡ j = omega arith in rw k (values-at (λ i. i) p (suc c) j l)) in
-    rw (e, ne-eqb (suc c) 0 (omega arith)) (sym (one-entry (writeWords file p (suc c) z) refl))
 
 -- The entries of the first log, and those of the second as the code takes them from the table.
 
@@ -86,15 +55,6 @@ moved-entries ws n h =
     let e = length-drop k ws in
     let a : movedOf ws k ≡ drop k ws = take-all (length ws - k) (drop k ws) (omega arith) in
     rw a (omega arith, entries-drop ws k 0 n ∙ ap (λ j. entriesOf ws j n) (add-zero k))
-
-writes-long : (file p c z : ℕ) → length (take (8 * writes c) (writeWords file p c z)) / 8 ≡ writes c
-unfolding writes writeWords
-writes-long file p zero z = refl
-writes-long file p (suc c) z = rw (ne-eqb (suc c) 0 (omega arith))
-
-pub slice-long : (more file p c z : ℕ) (e : List ℕ) → e ≡ writeWords file p c z → more ≤ 1 → 8 * more ≡ length (take (8 * more) e)
-unfolding writeWords
-slice-long more file p c z e q h = sym (length-take-le (8 * more) e (rw q (omega arith)))
 
 pub first-long : (ws : List ℕ) (n : ℕ) → 8 * (length ws / 8 - n) ≡ length (take (8 * (length ws / 8 - n)) ws)
 first-long ws n = sym (length-take-le (8 * (length ws / 8 - n)) ws (omega arith))
@@ -122,14 +82,11 @@ module _ (v b : List ℕ) (a : Append) (ws ds l : List ℕ) (y : Ready v b a ws 
   pub ready-pages : (P : ℕ) → P ≡ word v 0 → P ≤ 4096
   ready-pages P e = omega (arith, sizes .0)
 
-  pub ready-some : (P : ℕ) → P ≡ word v 0 → 0 < P
-  ready-some P e = omega (arith, sizes .2)
-
-  pub ready-few : (n : ℕ) → n ≤ 1 → length ws / 8 - a .moved + n < 4611686018427387904
+  pub ready-few : (n : ℕ) → n ≤ 9 → length ws / 8 - a .moved + n < 4611686018427387904
   ready-few n h = omega (arith, y .few)
 
-  pub ready-sum : (n q₁ q₂ : ℕ) → n ≤ 1 → q₁ ≤ length ws / 8 - a .moved + n → q₂ ≤ a .moved → q₁ + q₂ < 18446744073709551616
-  ready-sum n q₁ q₂ h i j = omega (arith, y .few, y .moved)
+  pub ready-nine : (n : ℕ) → n ≡ length ds / 64 → n ≤ 9
+  ready-nine n e = omega (arith, y .nine)
 
   pub ready-bytes : 8 * (length ws / 8 - a .moved) * 8 < 18446744073709551616
   ready-bytes = omega (arith, y .few)
@@ -173,18 +130,13 @@ module _ (v b k : List ℕ) (s : Sizes) (c : Closed v b) (ep : s .pages ≡ word
       omega arith)
       (has-append (w / 64) (pageOf (g .tail)) (freshFrom k s g d) (lay-in _ (slotsAt (g .tail)) es w z e))
 
--- The append of a, ws and ds to the volume v: t and t₂ are the tails of its logs, q₁ and q₂ the pages that they need. r and the marks k are what
--- `take_pages` answered and left.
+-- The append of a, ws and ds to the volume v: t and t₂ are the tails of its logs. en, ps and the marks k are what `take_pages` answered and left.
 module _ (v b : List ℕ) (a : Append) (ws ds l : List ℕ) (y : Ready v b a ws ds l) (s : Sizes) (ep : s .pages ≡ word v 0) (ei : s .inodes ≡ word v 1)
-    (t t₂ more q₁ q₂ : ℕ) (et : t ≡ oldTail (word v) (a .anew) (a .log)) (et₂ : t₂ ≡ oldTail (word v) false (a .second))
-    (em : more ≡ writes (length ds / 64)) (e₁ : q₁ ≡ neededAt t (length ws / 8 - a .moved + more)) (e₂ : q₂ ≡ neededAt t₂ (a .moved)) (r : Room)
-    (k : List ℕ) (x : Taken b s (q₁ + q₂) (length ds / 64) r k) where
-  -- how many entries the first log gets of the table, and how many in all
+    (t t₂ : ℕ) (et : t ≡ oldTail (word v) (a .anew) (a .log)) (et₂ : t₂ ≡ oldTail (word v) false (a .second)) (en : Bool) (os ps k : List ℕ)
+    (x : PagesTaken b (s .pages) (s .inodes) (length ds / 64) os en ps k) where
+  -- how many entries the first log gets of the table
   abbrev n : ℕ
   n = length ws / 8 - a .moved
-
-  abbrev m : ℕ
-  m = n + more
 
   abbrev u : Mem
   u = word v
@@ -205,6 +157,9 @@ module _ (v b : List ℕ) (a : Append) (ws ds l : List ℕ) (y : Ready v b a ws 
   abbrev A : calls.Append
   A = asked a ws ds
 
+  abbrev D : List ℕ
+  D = dataPages u P f A
+
   abbrev es₂ : List (List ℕ)
   es₂ = entriesOf ws (8 * firstCount a ws) (a .moved)
 
@@ -215,7 +170,7 @@ module _ (v b : List ℕ) (a : Append) (ws ds l : List ℕ) (y : Ready v b a ws 
   S = secondAsked a ws
 
   abbrev may : ℕ → Bool
-  may = besides f (dataPages u P f A)
+  may = besides f D
 
   abbrev f₂ : ℕ → Bool
   f₂ = pagesLeft u P f A
@@ -226,39 +181,78 @@ module _ (v b : List ℕ) (a : Append) (ws ds l : List ℕ) (y : Ready v b a ws 
   free-is : mayTake b s ≡ f
   free-is = closed-free v b (y .volume) s ep ei
 
-  run-is : lowestRun (mayTake b s) (s .pages) c ≡ lowestRun f P c
-  run-is = rw (free-is, ep)
+  bound : (p : ℕ) → f p ≡ true → p < P
+  bound p h = free-bounds u P N p h .1
 
-  data-is : dataTaken b s (q₁ + q₂) c ≡ dataPages u P f A
-  unfolding dataTaken dataPages asked
-  data-is = rw run-is
+  data-is : lowestPages (mayTake b s) (s .pages) c ≡ D
+  unfolding dataPages asked
+  data-is = rw (free-is, ep)
 
-  log-is : logTaken b s (q₁ + q₂) c ≡ lowestFew may P 0 (q₁ + q₂)
-  unfolding logTaken
-  log-is = rw (data-is, free-is, ep)
+  data-lacks : ltb (length D) c ≡ not en
+  data-lacks = rw (x .answer, data-is) (sym (not-not (ltb (length D) c)))
 
-  -- there is a run for the data, from page p on
-  module _ (p : ℕ) (e : lowestRun f P c ≡ some p) where
-    low : 0 < c → 0 < p
-    unfolding lowestRun
-    low h =
-        let i = lowest-is (λ p. allBelow c (λ i. f (p + i))) P 0 p e .holds in
-        let g : f p ≡ true = rw add-zero at (allBelow-at c 0 (λ i. f (p + i)) i h) in
-        omega (arith, free-bounds u P N p g .0)
+  -- refusal 12 of the first append
+  first-lacks : noRoom u P f A ≡ (ltb (length D) c || ltb (length (freshLog u P f A)) (freshPages u P f A))
+  unfolding asked
+  first-lacks = room-parts u P f A bound
+
+  refused : lacksRoom u P f (A ∷ S) ≡ true → Comes (outcome v (actionOf a ws ds)) l NoSpace l
+  unfolding outcome actionOf actionChecks roomChecks
+  refused e = rw e (record { answer = refl; list = refl })
+
+  pub refuses-data : not en ≡ true → Comes (outcome v (actionOf a ws ds)) l NoSpace l
+  unfolding lacksRoom
+  refuses-data e = refused (rw (first-lacks, data-lacks, e))
+
+  -- its pages, as the code takes them from the array, and their entries
+  pub pages-long : length os ≡ 9 → c ≡ length (take c ps)
+  pages-long i = sym (length-take-le c ps (omega (arith, x .long, y .nine)))
+
+  pub few-entries : (more : ℕ) → more ≤ length (take c ps) → length os ≡ 9 → more ≤ 9
+  few-entries more h i = omega (arith, pages-long i, y .nine)
+
+  pub table-asks : (z : ℕ) → length os ≡ 9 → z ≡ 72 → (length (take c ps) ≤ 128) × (8 * length (take c ps) ≤ z) × (a .file < 4294967296)
+  table-asks z i j = let g = y .nine in let h = pages-long i in (omega arith, omega arith, y .file)
+
+  -- The data has its pages. Of the table xs₀ the first `more` entries are those of its stretches, q₁ and q₂ are the pages that the logs need, and
+  -- en₂ is whether so many are left.
+  module _ (some-data : not en ≡ false) (more : ℕ) (os₂ xs₀ : List ℕ)
+      (held : Holds os₂ xs₀ more (stretchEntries (a .size) (stretches (dataPage (take (length ds / 64) ps) (a .file)) (length (take (length ds / 64) ps)) (a .file))))
+      (few-more : more ≤ length (take (length ds / 64) ps)) (table : length os₂ ≡ 72) (q₁ q₂ : ℕ)
+      (e₁ : q₁ ≡ neededAt t (length ws / 8 - a .moved + more)) (e₂ : q₂ ≡ neededAt t₂ (a .moved)) (en₂ : Bool)
+      (left-answer : en₂ ≡ not (ltb (length (lowestFew (mayTake k s) (s .pages) 0 (q₁ + q₂))) (q₁ + q₂))) where
+    abbrev m : ℕ
+    m = n + more
+
+    data-some : en ≡ true
+    data-some = not-false en some-data
+
+    pages-are : take c ps ≡ D
+    pages-are = x .pages data-some ∙ data-is
+
+    long-data : length D ≡ c
+    unfolding dataPages asked
+    long-data =
+        let h = ltb-false (length D) c (data-lacks ∙ some-data) in
+        let g = pages-few f P bound c in omega arith
+
+    few-writes : more ≤ c
+    few-writes = let h = rw pages-are at few-more in omega (arith, long-data)
 
     abbrev w₂ : List ℕ
-    w₂ = take (8 * writes c) (writeWords (a .file) p c (a .size))
+    w₂ = take (8 * more) xs₀
 
-    data-run : dataPages u P f A ≡ valuesFrom (λ i. i) p c
-    unfolding dataPages asked
-    data-run = rw e
+    writes-are : (length w₂ / 8 ≡ more) × (entriesOf w₂ 0 more ≡ entriesOf xs₀ 0 more)
+    writes-are = first-entries xs₀ more (omega (arith, held .long, few-writes, y .nine))
 
     all-entries : appended u P f A ≡ entriesOf ws 0 n ++ entriesOf w₂ 0 (length w₂ / 8)
     unfolding appended asked firstCount
-    all-entries = rw data-run (ap (λ es. entriesOf ws 0 n ++ es) (write-entry (a .file) p c (a .size) low))
+    all-entries =
+        let h : entriesOf xs₀ 0 more ≡ stretchEntries (a .size) (stretches (dataPage D (a .file)) c (a .file)) = rw (pages-are, long-data) at (held .entries) in
+        rw (writes-are .0, writes-are .1) (ap (λ es. entriesOf ws 0 n ++ es) (sym h))
 
     all-long : length (appended u P f A) ≡ m
-    all-long = rw (all-entries, length-append, length-entries, length-entries, writes-long (a .file) p c (a .size), em)
+    all-long = rw (all-entries, length-append, length-entries, length-entries, writes-are .0)
 
     fresh-need : freshPages u P f A ≡ q₁
     unfolding asked
@@ -268,204 +262,184 @@ module _ (v b : List ℕ) (a : Append) (ws ds l : List ℕ) (y : Ready v b a ws 
     unfolding freshLog
     fresh-log = rw fresh-need
 
-  data-none : lowestRun f P c ≡ none → dataPages u P f A ≡ []
-  unfolding dataPages asked
-  data-none e = rw e
+    -- the second log
+    second-long : (g : ℕ → Bool) → length (appended u P g B) ≡ a .moved
+    second-long g = rw (only-entries u P g false (a .second) es₂) (length-entries ws (8 * firstCount a ws) (a .moved))
 
-  -- the second log
-  second-long : (g : ℕ → Bool) → length (appended u P g B) ≡ a .moved
-  second-long g = rw (only-entries u P g false (a .second) es₂) (length-entries ws (8 * firstCount a ws) (a .moved))
+    second-may : (g : ℕ → Bool) → besides g (dataPages u P g B) ≡ g
+    second-may g = rw (no-data u P g false (a .second) es₂) (besides-none g)
 
-  second-may : (g : ℕ → Bool) → besides g (dataPages u P g B) ≡ g
-  second-may g = rw (no-data u P g false (a .second) es₂) (besides-none g)
+    second-lacks : (g : ℕ → Bool) → ((p : ℕ) → g p ≡ true → p < P) → lacksRoom u P g S ≡ ltb (length (lowestFew g P 0 q₂)) q₂
+    unfolding secondAsked lacksRoom freshLog entriesOnly
+    second-lacks g low =
+        by-eq (a .moved) 0
+        (λ z.
+        let o : q₂ ≡ 0 = e₂ ∙ rw z (no-need t₂ (rw et₂ (old-fine v b (y .volume) false (a .second) (y .second) (y .second-valid) .0))) in
+        rw (eq-eqb (a .moved) 0 z, o, le-ltb (length (lowestFew g P 0 0)) 0 (omega arith)))
+        (λ z.
+        let i : freshPages u P g B ≡ q₂ = fresh-is u P g B ∙ rw (second-long g, e₂, et₂) in
+        let d = no-data u P g false (a .second) es₂ in
+        rw (ne-eqb (a .moved) 0 z) (one-room u P g B ∙ room-parts u P g B low ∙ rw (i, d, besides-none g)))
 
-  second-lacks : (g : ℕ → Bool) → lacksRoom u P g S ≡ ltb (length (lowestFew g P 0 q₂)) q₂
-  unfolding secondAsked lacksRoom noRoom freshLog entriesOnly
-  second-lacks g =
-      by-eq (a .moved) 0
-      (λ z.
-      let o : q₂ ≡ 0 = e₂ ∙ rw z (no-need t₂ (rw et₂ (old-fine v b (y .volume) false (a .second) (y .second) (y .second-valid) .0))) in
-      rw (eq-eqb (a .moved) 0 z, o, le-ltb (length (lowestFew g P 0 0)) 0 (omega arith)))
-      (λ z.
-      let i : freshPages u P g B ≡ q₂ = fresh-is u P g B ∙ rw (second-long g, e₂, et₂) in
-      let d = no-data u P g false (a .second) es₂ in
-      rw (ne-eqb (a .moved) 0 z) (one-room u P g B ∙ rw (i, d, besides-none g)))
-
-  or-both : (p q o : Bool) → ((p || q) || o) ≡ (p || (q || o))
-  or-both true q o = refl
-  or-both false q o = refl
-
-  no-room : (o : Option ℕ) → lowestRun f P c ≡ o → (noRoom u P f A || lacksRoom u P f₂ S) ≡ not (r .enough)
-  unfolding noRoom pagesLeft asked
-  no-room none e =
-      let z = lt-ltb 0 c (no-run f P c (omega (arith, few .2)) e) in
-      let d = data-none e in
-      rw (d, z) (sym (x .answer ∙ rw (data-is, d, z)))
-  no-room (some p) e =
-      rw (second-lacks f₂, fresh-need p e, fresh-log p e)
-      (or-both (ltb (length (dataPages u P f A)) c) _ _ ∙ sym (x .answer ∙ rw (data-is, log-is, few-both may P q₁ q₂)))
-
-  lacks : lacksRoom u P f (A ∷ S) ≡ not (r .enough)
-  unfolding lacksRoom
-  lacks = no-room (lowestRun f P c) refl
-
-  pub refuses : not (r .enough) ≡ true → Comes (outcome v (actionOf a ws ds)) l NoSpace l
-  unfolding outcome actionOf actionChecks roomChecks
-  refuses e = let z : lacksRoom u P f (A ∷ S) ≡ true = lacks ∙ e in rw z (record { answer = refl; list = refl })
-
-  module _ (no : not (r .enough) ≡ false) where
-    h : r .enough ≡ true
-    h = not-false (r .enough) no
-
-    run-some : lowestRun f P c ≡ some (r .start)
-    run-some = sym run-is ∙ x .start h
-
-    -- both logs have their pages
-    none-lack : (ltb (length (lowestFew may P 0 q₁)) q₁ ≡ false) × (ltb (length (lowestFew (besides may (lowestFew may P 0 q₁)) P 0 q₂)) q₂ ≡ false)
-    none-lack =
-        let e = or-false (ltb (length (dataTaken b s (q₁ + q₂) c)) c) (ltb (length (logTaken b s (q₁ + q₂) c)) (q₁ + q₂)) (sym (x .answer) ∙ no) .1 in
-        or-false _ _ (sym (few-both may P q₁ q₂) ∙ (rw log-is at e))
-
-    enough-first : length (lowestFew may P 0 q₁) ≡ q₁
-    enough-first = let i = few-length may P 0 q₁ in omega (arith, ltb-false (length (lowestFew may P 0 q₁)) q₁ (none-lack .0))
-
-    enough-second : length (lowestFew f₂ P 0 q₂) ≡ q₂
-    unfolding pagesLeft
-    enough-second =
-        let ls = lowestFew (besides may (lowestFew may P 0 q₁)) P 0 q₂ in
-        let i = few-length (besides may (lowestFew may P 0 q₁)) P 0 q₂ in
-        rw (fresh-log (r .start) run-some) (omega (arith, ltb-false (length ls) q₂ (none-lack .1)))
+    left-below : (p : ℕ) → f₂ p ≡ true → p < P
+    unfolding pagesLeft besides
+    left-below p h = bound p (and-left _ _ (and-left _ _ h))
 
     may-is : mayTake k s ≡ may
-    may-is = rw (x .left, data-is, free-is)
+    may-is = rw (x .left data-some, data-is, free-is)
 
-    may-free : (p : ℕ) → mayTake k s p ≡ true → f p ≡ true
-    unfolding besides
-    may-free p e = let z : may p ≡ true = rw may-is at e in and-left (f p) (not (has p (dataPages u P f A))) z
+    lacks : lacksRoom u P f (A ∷ S) ≡ not en₂
+    unfolding lacksRoom pagesLeft
+    lacks =
+        rw (first-lacks, data-lacks, some-data, second-lacks f₂ left-below, fresh-need, fresh-log)
+        (sym (few-both may P q₁ q₂) ∙ sym (rw (left-answer, may-is, ep) (not-not (ltb (length (lowestFew may P 0 (q₁ + q₂))) (q₁ + q₂)))))
 
-    -- the first log is laid from g₀ on
-    abbrev g₀ : Laid
-    g₀ = startAt 0 t 0
+    pub refuses-log : not en₂ ≡ true → Comes (outcome v (actionOf a ws ds)) l NoSpace l
+    refuses-log e = refused (lacks ∙ e)
 
-    seeks : (j : ℕ) → freshFrom k s g₀ j ≡ lowestFew may P 0 j
-    seeks j = rw (may-is, sub-zero (s .pages), ep)
+    module _ (no : not en₂ ≡ false) where
+      -- both logs have their pages
+      none-lack : (ltb (length (lowestFew may P 0 q₁)) q₁ ≡ false) × (ltb (length (lowestFew (besides may (lowestFew may P 0 q₁)) P 0 q₂)) q₂ ≡ false)
+      none-lack =
+          let h : ltb (length (lowestFew may P 0 (q₁ + q₂))) (q₁ + q₂) ≡ not en₂ = sym (rw (left-answer, may-is, ep) (not-not (ltb (length (lowestFew may P 0 (q₁ + q₂))) (q₁ + q₂)))) in
+          or-false _ _ (sym (few-both may P q₁ q₂) ∙ h ∙ no)
 
-    first-layable : Layable k s g₀ m
-    first-layable =
-        at-layable v b k s (y .volume) ep may-free (a .anew) (a .log) (y .log) (y .valid) g₀ et m
-        (rw (seeks (neededAt t m), ← e₁) enough-first)
+      enough-first : length (lowestFew may P 0 q₁) ≡ q₁
+      enough-first = let i = few-length may P 0 q₁ in omega (arith, ltb-false (length (lowestFew may P 0 q₁)) q₁ (none-lack .0))
 
-    start-inside : 64 * r .start + length ds ≤ 64 * P
-    unfolding lowestRun
-    start-inside =
-        let w = y .whole in
-        by-eq c 0 (λ z. omega (arith, x .inside))
-        (λ z.
-        let i = lowest-is (λ p. allBelow c (λ i. f (p + i))) P 0 (r .start) run-some .holds in
-        let g = allBelow-at c (c - 1) (λ i. f (r .start + i)) i (omega arith) in
-        omega (arith, free-bounds u P N (r .start + (c - 1)) g .1))
+      enough-second : length (lowestFew f₂ P 0 q₂) ≡ q₂
+      unfolding pagesLeft
+      enough-second =
+          let ls = lowestFew (besides may (lowestFew may P 0 q₁)) P 0 q₂ in
+          let i = few-length (besides may (lowestFew may P 0 q₁)) P 0 q₂ in
+          rw fresh-log (omega (arith, ltb-false (length ls) q₂ (none-lack .1)))
 
-    few-more : more ≤ 1
-    unfolding writes
-    few-more = rw em (by-eq c 0 (λ z. rw (eq-eqb c 0 z) (omega arith)) (λ z. rw (ne-eqb c 0 z) (omega arith)))
+      may-free : (p : ℕ) → mayTake k s p ≡ true → f p ≡ true
+      unfolding besides
+      may-free p e = let z : may p ≡ true = rw may-is at e in and-left (f p) (not (has p (dataPages u P f A))) z
 
-    abbrev es₁ : List (List ℕ)
-    es₁ = entriesOf ws 0 n ++ entriesOf (w₂ (r .start) run-some) 0 (length (w₂ (r .start) run-some) / 8)
+      -- the first log is laid from g₀ on
+      abbrev g₀ : Laid
+      g₀ = startAt 0 t 0
 
-    all₁ : appended u P f A ≡ es₁
-    all₁ = all-entries (r .start) run-some
+      seeks : (j : ℕ) → freshFrom k s g₀ j ≡ lowestFew may P 0 j
+      seeks j = rw (may-is, sub-zero (s .pages), ep)
 
-    long₁ : length (appended u P f A) ≡ m
-    long₁ = all-long (r .start) run-some
+      first-layable : Layable k s g₀ m
+      first-layable =
+          at-layable v b k s (y .volume) ep may-free (a .anew) (a .log) (y .log) (y .valid) g₀ et m
+          (rw (seeks (neededAt t m), ← e₁) enough-first)
 
-    -- What it stores is that of the definitions.
-    first-stores : prepared u P f A ≡ both (toLay k s g₀ es₁) (restOf a t (headBehind k s g₀ m) (r .start) ds)
-    unfolding restOf asked
-    first-stores =
-        let d : layPages (dataPages u P f A) (element ds) ≡ run (64 * r .start) (length ds) (element ds)
-        = (rw (data-run (r .start) run-some) (lay-run (r .start) c (element ds))) ∙ ap (λ n. run (64 * r .start) n (element ds)) (y .whole) in
-        log-prepared u P f A k s g₀ m et refl long₁ seeks ∙ rw (all₁, d)
+      are-pages : ArePages (length (take c ps)) (take c ps)
+      unfolding dataPages asked
+      are-pages j h =
+          let g = pages-hold f P bound c (getD D j 0) (has-getD D j (rw pages-are at h)) in
+          rw pages-are (omega (arith, few .0, g .1))
 
-    some-first : m ≡ 0 → oldTail u (a .anew) (a .log) ≡ 0
-    unfolding oldTail firstCount writes
-    some-first z =
-        by-bool (a .anew) (λ o. rw o)
-        (λ o.
-        let i = y .some-entry o in
-        by-eq c 0 (λ d. absurd (omega arith)) (λ d. let w : writes c ≡ 1 = rw (ne-eqb c 0 d) in absurd (omega arith)))
+      abbrev es₁ : List (List ℕ)
+      es₁ = entriesOf ws 0 n ++ entriesOf w₂ 0 (length w₂ / 8)
 
-    -- i is how far it is laid, and e the end of the group with what belongs to it: there the second log is laid
-    module _ (i : Laid) (left : (j : ℕ) → freshFrom k s i j ≡ lowestFew f₂ P 0 j) (e : ℕ) where
-      abbrev g₁ : Laid
-      g₁ = startAt e t₂ (i .from)
+      -- What it stores is that of the definitions.
+      first-stores : prepared u P f A ≡ both (toLay k s g₀ es₁) (restOf a t (headBehind k s g₀ m) D ds)
+      unfolding restOf asked
+      first-stores = log-prepared u P f A k s g₀ m et refl all-long seeks ∙ rw all-entries
 
-      seeks₂ : (j : ℕ) → freshFrom k s g₁ j ≡ lowestFew (besides f₂ (dataPages u P f₂ B)) P 0 j
-      seeks₂ j = rw (second-may f₂) (left j)
+      -- data gives an entry
+      some-write : 1 ≤ c → 1 ≤ more
+      unfolding stretchEntries dataPages asked
+      some-write h =
+          let D₀ = getD D 0 0 in
+          let g = pages-hold f P bound c D₀ (has-getD D 0 (omega (arith, long-data))) in
+          let i = stretches-some (dataPage D (a .file)) c (a .file) h
+          (λ z. let e : a .file - a .file ≡ 0 = omega arith in let q = rw e at z in omega (arith, free-bounds u P N D₀ (g .0))) in
+          let e : more ≡ length (stretches (dataPage D (a .file)) c (a .file))
+          = sym (length-entries xs₀ 0 more) ∙ ap length (rw (pages-are, long-data) at (held .entries)) ∙ (rw length-map) in
+          omega arith
 
-      second-layable : Layable k s g₁ (a .moved)
-      second-layable =
-          at-layable v b k s (y .volume) ep may-free false (a .second) (y .second) (y .second-valid) g₁ et₂ (a .moved)
-          (rw (left (neededAt t₂ (a .moved)), ← e₂) enough-second)
+      some-first : m ≡ 0 → oldTail u (a .anew) (a .log) ≡ 0
+      unfolding oldTail firstCount
+      some-first z =
+          by-bool (a .anew) (λ o. rw o)
+          (λ o.
+          let i = y .some-entry o in
+          by-eq c 0 (λ d. absurd (omega arith)) (λ d. absurd (omega (arith, some-write (omega arith)))))
 
-      second-stores : allPrepared u P f₂ S ≡ secondStores k s g₁ (a .second) es₂
-      unfolding secondAsked allPrepared secondStores onlyIf layPages indexOf entriesOnly
-      second-stores =
-          let d = length-entries ws (8 * firstCount a ws) (a .moved) in
-          by-eq (a .moved) 0 (λ z. rw (d, eq-eqb (a .moved) 0 z))
-          (λ z.
-          let o = log-prepared u P f₂ B k s g₁ (a .moved) et₂ refl (second-long f₂) seeks₂ in
-          rw (d, ne-eqb (a .moved) 0 z)
-          (one-prepared u P f₂ B ∙ o
-          ∙ rw (only-entries u P f₂ false (a .second) es₂, no-data u P f₂ false (a .second) es₂, both-none)))
+      -- i is how far it is laid, and e the end of the group with what belongs to it: there the second log is laid
+      module _ (i : Laid) (left : (j : ℕ) → freshFrom k s i j ≡ lowestFew f₂ P 0 j) (e : ℕ) where
+        abbrev g₁ : Laid
+        g₁ = startAt e t₂ (i .from)
 
-      second-changes : allChanges u P f₂ S ≡ cond (not (eqb (a .moved) 0)) ((tailWord (a .second), tailBehind k s g₁ (a .moved)) ∷ []) []
-      unfolding secondAsked allChanges entriesOnly
-      second-changes =
-          by-eq (a .moved) 0 (λ z. rw (eq-eqb (a .moved) 0 z))
-          (λ z. rw (ne-eqb (a .moved) 0 z)
-          (one-changes u P f₂ B ∙ log-changes u P f₂ B k s g₁ (a .moved) et₂ refl (second-long f₂) seeks₂ (λ o. absurd (z o))))
+        seeks₂ : (j : ℕ) → freshFrom k s g₁ j ≡ lowestFew (besides f₂ (dataPages u P f₂ B)) P 0 j
+        seeks₂ j = rw (second-may f₂) (left j)
 
-    -- What the parts of `make` ask. xs₀ are the words of the data's entry, of which those that are laid are xs.
+        second-layable : Layable k s g₁ (a .moved)
+        second-layable =
+            at-layable v b k s (y .volume) ep may-free false (a .second) (y .second) (y .second-valid) g₁ et₂ (a .moved)
+            (rw (left (neededAt t₂ (a .moved)), ← e₂) enough-second)
 
-    abbrev w₁ : List ℕ
-    w₁ = take (8 * n) ws
+        second-stores : allPrepared u P f₂ S ≡ secondStores k s g₁ (a .second) es₂
+        unfolding secondAsked allPrepared secondStores onlyIf layPages indexOf entriesOnly
+        second-stores =
+            let d = length-entries ws (8 * firstCount a ws) (a .moved) in
+            by-eq (a .moved) 0 (λ z. rw (d, eq-eqb (a .moved) 0 z))
+            (λ z.
+            let o = log-prepared u P f₂ B k s g₁ (a .moved) et₂ refl (second-long f₂) seeks₂ in
+            rw (d, ne-eqb (a .moved) 0 z)
+            (one-prepared u P f₂ B ∙ o
+            ∙ rw (only-entries u P f₂ false (a .second) es₂, no-data u P f₂ false (a .second) es₂, both-none)))
 
-    abbrev w₃ : List ℕ
-    w₃ = movedOf ws (8 * n)
+        second-changes : allChanges u P f₂ S ≡ cond (not (eqb (a .moved) 0)) ((tailWord (a .second), tailBehind k s g₁ (a .moved)) ∷ []) []
+        unfolding secondAsked allChanges entriesOnly
+        second-changes =
+            by-eq (a .moved) 0 (λ z. rw (eq-eqb (a .moved) 0 z))
+            (λ z. rw (ne-eqb (a .moved) 0 z)
+            (one-changes u P f₂ B ∙ log-changes u P f₂ B k s g₁ (a .moved) et₂ refl (second-long f₂) seeks₂ (λ o. absurd (z o))))
 
-    split : (length w₁ / 8 ≡ n) × (entriesOf w₁ 0 n ≡ entriesOf ws 0 n) × (length w₃ / 8 ≡ a .moved) × (entriesOf w₃ 0 (a .moved) ≡ entriesOf ws (8 * n) (a .moved))
-    split =
-        let o = first-entries ws n (omega arith) in
-        let q = moved-entries ws (a .moved) (y .moved) in
-        (o .0, o .1, q .0, q .1)
+      -- What the parts of `make` ask.
 
-    module _ (i₀ p₀ c₀ z₀ : ℕ) (xs₀ : List ℕ) (e₀ : xs₀ ≡ writeWords i₀ p₀ c₀ z₀) where
-      abbrev xs : List ℕ
-      xs = take (8 * more) xs₀
+      abbrev w₁ : List ℕ
+      w₁ = take (8 * n) ws
 
-      count-is : length w₁ / 8 + length xs / 8 ≡ m
-      count-is = let o = split .0 in omega (arith, slice-long more i₀ p₀ c₀ z₀ xs₀ e₀ few-more)
+      abbrev w₃ : List ℕ
+      w₃ = movedOf ws (8 * n)
 
-      pub lay-asks : (s .pages ≤ 4096) × Layable k s g₀ (length w₁ / 8 + length xs / 8) × (0 + 18 * (length w₁ / 8 + length xs / 8) ≤ length l)
-      lay-asks = (omega (arith, few .0), rw count-is first-layable, omega (arith, count-is, few-more, y .room))
+      split : (length w₁ / 8 ≡ n) × (entriesOf w₁ 0 n ≡ entriesOf ws 0 n) × (length w₃ / 8 ≡ a .moved) × (entriesOf w₃ 0 (a .moved) ≡ entriesOf ws (8 * n) (a .moved))
+      split =
+          let o = first-entries ws n (omega arith) in
+          let q = moved-entries ws (a .moved) (y .moved) in
+          (o .0, o .1, q .0, q .1)
+
+      count-is : length w₁ / 8 + length w₂ / 8 ≡ m
+      count-is = rw (split .0, writes-are .0)
+
+      pub writes-long : 8 * more ≡ length w₂
+      writes-long = sym (length-take-le (8 * more) xs₀ (omega (arith, held .long, few-writes, y .nine)))
+
+      pub lay-asks : (s .pages ≤ 4096) × Layable k s g₀ (length w₁ / 8 + length w₂ / 8) × (0 + 18 * (length w₁ / 8 + length w₂ / 8) ≤ length l)
+      lay-asks = (omega (arith, few .0), rw count-is first-layable, omega (arith, count-is, few-writes, y .room))
 
       -- i is how far the first log is laid, and m₁ the list then
-      module _ (i : Laid) (m₁ : List ℕ) (d : LogLaid k s l g₀ w₁ xs i m₁) where
+      module _ (i : Laid) (m₁ : List ℕ) (d : LogLaid k s l g₀ w₁ w₂ i m₁) where
         left : (j : ℕ) → freshFrom k s i j ≡ lowestFew f₂ P 0 j
         unfolding asked
-        left = log-left u P f A k s g₀ m et refl long₁ seeks (first-layable .enough) i (rw count-is at (d .left))
+        left = log-left u P f A k s g₀ m et refl all-long seeks (first-layable .enough) i (rw count-is at (d .left))
 
-        pub rest-asks : (a .log < 4294967296) × (64 * r .start + length ds ≤ 262144) × (i .end + 2 * length ds + 2 ≤ length m₁)
+        pub rest-asks : (a .log < 4294967296) × ArePages (length (take c ps)) (take c ps) × (64 * length (take c ps) ≤ length ds)
+            × (i .end + 128 * length (take c ps) + 2 ≤ length m₁)
         rest-asks = (
           omega (arith, few .1, y .log),
-          omega (arith, few .0, start-inside),
-          omega (arith, count-is, few-more, y .room, d .end, d .stores .long),
+          are-pages,
+          rw pages-are (omega (arith, long-data, y .whole)),
+          rw pages-are (omega (arith, long-data, y .whole, count-is, few-writes, y .room, d .end, d .stores .long)),
         )
 
         -- e is the end of the group with what belongs to it, and m₂ the list then
-        module _ (e : ℕ) (m₂ : List ℕ) (s₁ : Stores) (added : Added m₁ 0 (i .end) s₁ e m₂) (end : e ≤ i .end + 2 * length ds + 2) where
+        module _ (e : ℕ) (m₂ : List ℕ) (s₁ : Stores) (added : Added m₁ 0 (i .end) s₁ e m₂) (end : e ≤ i .end + 128 * length (take (length ds / 64) ps) + 2) where
           abbrev long : length m₂ ≡ length m₁
           long = added .long
+
+          short : e ≤ i .end + 2 * length ds + 2
+          short = let z = rw pages-are at end in omega (arith, long-data, y .whole)
 
           pub second-asks : (s .pages ≤ 4096) × (a .second < 4294967296) × Layable k s (startAt e t₂ (i .from)) (length w₃ / 8)
               × (e + 18 * (length w₃ / 8) + 2 ≤ length m₂)
@@ -474,7 +448,7 @@ module _ (v b : List ℕ) (a : Append) (ws ds l : List ℕ) (y : Ready v b a ws 
                 omega (arith, few .0),
                 omega (arith, few .1, y .second),
                 rw o (second-layable i left e),
-                omega (arith, count-is, few-more, y .room, y .moved, d .end, d .stores .long),
+                omega (arith, count-is, few-writes, y .room, y .whole, short, y .moved, d .end, d .stores .long),
               )
 
           -- h is how far the second log is laid, and m₃ the list then
@@ -482,7 +456,7 @@ module _ (v b : List ℕ) (a : Append) (ws ds l : List ℕ) (y : Ready v b a ws 
             pub new-asks : (a .other < 4294967296) × (h .end + 4 ≤ length m₃)
             new-asks =
                 let q = split .2 in
-                (omega (arith, few .1, y .other), omega (arith, count-is, few-more, y .room, y .moved, d .end, d .stores .long, w .end, w .stores .long))
+                (omega (arith, few .1, y .other), omega (arith, count-is, few-writes, y .room, y .whole, short, y .moved, d .end, d .stores .long, w .end, w .stores .long))
 
             -- z of the words cs commit, behind index e₂
             pub commit-asks : (e₂ z h₀ t₀ t₃ : ℕ) (m₄ c₀ cs : List ℕ) (s₂ : Stores) → Added m₃ 0 (h .end) s₂ e₂ m₄ → e₂ ≤ h .end + 4
@@ -504,67 +478,67 @@ module _ (v b : List ℕ) (a : Append) (ws ds l : List ℕ) (y : Ready v b a ws 
                         rw j (omega arith);
                   },
                   omega arith,
-                  omega (arith, count-is, few-more, y .room, y .moved, d .end, d .stores .long, w .end, w .stores .long),
+                  omega (arith, count-is, few-writes, y .room, y .whole, short, y .moved, d .end, d .stores .long, w .end, w .stores .long),
                 )
 
-    -- Stores beside the logs lie in the volume.
-    rest-low : (h : ℕ) → Only (λ w. w < 64 * P) (restOf a t h (r .start) ds)
-    unfolding restOf headOf
-    rest-low h =
-        let M : ℕ → ℕ → Type 0 = λ w x. w < 64 * P in
-        let n = few .2 in
-        let i = y .log in
-        let g = start-inside in
-        only-both (only-if _ (λ e. only-word M (headWord (a .log)) h (omega arith))) (only-run M (64 * r .start) (length ds) (element ds) (λ q h. omega arith))
+      -- Stores beside the logs lie in the volume.
+      rest-low : (h : ℕ) → Only (λ w. w < 64 * P) (restOf a t h D ds)
+      unfolding restOf headOf dataPages asked
+      rest-low h =
+          let M : ℕ → ℕ → Type 0 = λ w x. w < 64 * P in
+          let n = few .2 in
+          let i = y .log in
+          only-both (only-if _ (λ e. only-word M (headWord (a .log)) h (omega arith)))
+          (λ w x e. omega (arith, pages-hold f P bound c (w / 64) (pages-in D (element ds) w x e) .1))
 
-    new-low : Only (λ w. w < 64 * P) (zeroed a)
-    unfolding zeroed
-    new-low =
-        let M : ℕ → ℕ → Type 0 = λ w x. w < 64 * P in
-        let n = few .2 in
-        let j = y .other in
-        only-if _ (λ e. only-both (only-word M (headWord (a .other)) 0 (omega arith)) (only-word M (tailWord (a .other)) 0 (omega arith)))
+      new-low : Only (λ w. w < 64 * P) (zeroed a)
+      unfolding zeroed
+      new-low =
+          let M : ℕ → ℕ → Type 0 = λ w x. w < 64 * P in
+          let n = few .2 in
+          let j = y .other in
+          only-if _ (λ e. only-both (only-word M (headWord (a .other)) 0 (omega arith)) (only-word M (tailWord (a .other)) 0 (omega arith)))
 
-    second-low : (g : Laid) → g .tail ≡ t₂ → (es : List (List ℕ)) → Only (λ w. w < 64 * P) (secondStores k s g (a .second) es)
-    unfolding secondStores headOf
-    second-low g eg es =
-        let M : ℕ → ℕ → Type 0 = λ w x. w < 64 * P in
-        let n = few .2 in
-        let j = y .second in
-        only-if _ (λ e. only-both (at-low v b k s (y .volume) ep may-free false (a .second) (y .second) (y .second-valid) g (eg ∙ et₂) es)
-        (only-if _ (λ e. only-word M (headWord (a .second)) _ (omega arith))))
+      second-low : (g : Laid) → g .tail ≡ t₂ → (es : List (List ℕ)) → Only (λ w. w < 64 * P) (secondStores k s g (a .second) es)
+      unfolding secondStores headOf
+      second-low g eg es =
+          let M : ℕ → ℕ → Type 0 = λ w x. w < 64 * P in
+          let n = few .2 in
+          let j = y .second in
+          only-if _ (λ e. only-both (at-low v b k s (y .volume) ep may-free false (a .second) (y .second) (y .second-valid) g (eg ∙ et₂) es)
+          (only-if _ (λ e. only-word M (headWord (a .second)) _ (omega arith))))
 
-    -- `make`: i and h are how far the logs were laid, e is the end of the group with what belongs to the first log and e₃ its end in all, zs of
-    -- the words cs commit it, and z is the end of the list
-    pub fills : (i h : Laid) (e e₃ z zs : ℕ) (xs₀ c₀ cs m₁ m₂ m₃ m₄ m₅ : List ℕ) → xs₀ ≡ writeWords (a .file) (r .start) c (a .size)
-        → LogLaid k s l g₀ w₁ (take (8 * more) xs₀) i m₁ → Added m₁ 0 (i .end) (restOf a t (i .head) (r .start) ds) e m₂
-        → SecondLaid k s m₂ (startAt e t₂ (i .from)) (a .second) w₃ h m₃ → Added m₃ 0 (h .end) (zeroed a) e₃ m₄
-        → Emitted c₀ 0 (pairsOf (committing a (i .head) (i .tail) (h .tail))) zs cs → 8 ≤ length c₀ → zs ≤ 8
-        → Committed v m₄ e₃ (changesOf (take zs cs)) z m₅ → z ≤ length m₄ → Comes (outcome v (actionOf a ws ds)) l (Number z) m₅
-    unfolding outcome actionOf actionChecks actionGroups roomChecks allPrepared allChanges committing firstCount asked
-    fills i h e e₃ z zs xs₀ c₀ cs m₁ m₂ m₃ m₄ m₅ e₀ x₁ x₂ x₃ x₄ x₅ room most x₆ x₇ =
-        let W : length v / 8 ≡ 64 * P = let q = closed-bytes v b (y .volume) in omega arith in
-        let o = split in
-        let n₁ = count-is (a .file) (r .start) c (a .size) xs₀ e₀ in
-        let g₁ = startAt e t₂ (i .from) in
-        let i-left = left (a .file) (r .start) c (a .size) xs₀ e₀ i m₁ x₁ in
-        let s₁ : entriesOf w₁ 0 (length w₁ / 8) ++ entriesOf (take (8 * more) xs₀) 0 (length (take (8 * more) xs₀) / 8) ≡ es₁ = rw (o .0, o .1, em, e₀) in
-        let p₁ : Added l 0 0 (toLay k s g₀ es₁) (i .end) m₁ = rw s₁ at (x₁ .stores) in
-        let p₃ : Added m₂ 0 e (secondStores k s g₁ (a .second) es₂) (h .end) m₃ = rw (o .2, o .3) at (x₃ .stores) in
-        let G = both (both (both (toLay k s g₀ es₁) (restOf a t (i .head) (r .start) ds)) (secondStores k s g₁ (a .second) es₂)) (zeroed a) in
-        let q : Added l 0 0 G e₃ m₄ = added-both (added-both (added-both p₁ x₂) p₃) x₄ in
-        let first-low = at-low v b k s (y .volume) ep may-free (a .anew) (a .log) (y .log) (y .valid) g₀ et es₁ in
-        let group = group-of (64 * P) q (only-both (only-both (only-both first-low (rest-low (i .head))) (second-low g₁ refl es₂)) new-low) in
-        let head-is : i .head ≡ headBehind k s g₀ m = x₁ .head ∙ ap (headBehind k s g₀) n₁ in
-        let tail-is : i .tail ≡ tailBehind k s g₀ m = x₁ .tail ∙ ap (tailBehind k s g₀) n₁ in
-        let tail₂-is : h .tail ≡ tailBehind k s g₁ (a .moved) = x₃ .tail ∙ ap (tailBehind k s g₁) (o .2) in
-        let stores : both (allPrepared u P f (A ∷ S)) (zeroed a) ≡ G = rw (first-stores, second-stores i i-left e, head-is) in
-        let changes : allChanges u P f (A ∷ S) ++ alsoCommitted a ≡ committing a (i .head) (i .tail) (h .tail)
-        = rw (log-changes u P f A k s g₀ m et refl long₁ seeks some-first, second-changes i i-left e, head-is, tail-is, tail₂-is) in
-        let list = rw W at (x₆ .list l G (rw W group)) in
-        let gs : storeList (64 * P) (commit u G (changesOf (take zs cs)))
-        ≡ storeList (64 * P) (commit u (both (allPrepared u P f (A ∷ S)) (zeroed a)) (allChanges u P f (A ∷ S) ++ alsoCommitted a))
-        = rw (stores, changes, put-changes c₀ cs zs _ x₅ room most) in
-        let done-list = rw gs at list in
-        let ok : lacksRoom u P f (A ∷ S) ≡ false = lacks ∙ no in
-        rw ok (comes-words done-list (omega (arith, x₇, q .long)))
+      -- `make`: i and h are how far the logs were laid, e is the end of the group with what belongs to the first log and e₃ its end in all, zs of
+      -- the words cs commit it, and z is the end of the list
+      pub fills : (i h : Laid) (e e₃ z zs : ℕ) (c₀ cs m₁ m₂ m₃ m₄ m₅ : List ℕ) → LogLaid k s l g₀ w₁ w₂ i m₁
+          → Added m₁ 0 (i .end) (restOf a t (i .head) (take (length ds / 64) ps) ds) e m₂
+          → SecondLaid k s m₂ (startAt e t₂ (i .from)) (a .second) w₃ h m₃ → Added m₃ 0 (h .end) (zeroed a) e₃ m₄
+          → Emitted c₀ 0 (pairsOf (committing a (i .head) (i .tail) (h .tail))) zs cs → 8 ≤ length c₀ → zs ≤ 8
+          → Committed v m₄ e₃ (changesOf (take zs cs)) z m₅ → z ≤ length m₄ → Comes (outcome v (actionOf a ws ds)) l (Number z) m₅
+      unfolding outcome actionOf actionChecks actionGroups roomChecks allPrepared allChanges committing firstCount asked
+      fills i h e e₃ z zs c₀ cs m₁ m₂ m₃ m₄ m₅ x₁ x₂₀ x₃ x₄ x₅ room most x₆ x₇ =
+          let W : length v / 8 ≡ 64 * P = let q = closed-bytes v b (y .volume) in omega arith in
+          let o = split in
+          let g₁ = startAt e t₂ (i .from) in
+          let i-left = left i m₁ x₁ in
+          let x₂ : Added m₁ 0 (i .end) (restOf a t (i .head) D ds) e m₂ = rw pages-are at x₂₀ in
+          let s₁ : entriesOf w₁ 0 (length w₁ / 8) ++ entriesOf w₂ 0 (length w₂ / 8) ≡ es₁ = rw (o .0, o .1) in
+          let p₁ : Added l 0 0 (toLay k s g₀ es₁) (i .end) m₁ = rw s₁ at (x₁ .stores) in
+          let p₃ : Added m₂ 0 e (secondStores k s g₁ (a .second) es₂) (h .end) m₃ = rw (o .2, o .3) at (x₃ .stores) in
+          let G = both (both (both (toLay k s g₀ es₁) (restOf a t (i .head) D ds)) (secondStores k s g₁ (a .second) es₂)) (zeroed a) in
+          let q : Added l 0 0 G e₃ m₄ = added-both (added-both (added-both p₁ x₂) p₃) x₄ in
+          let first-low = at-low v b k s (y .volume) ep may-free (a .anew) (a .log) (y .log) (y .valid) g₀ et es₁ in
+          let group = group-of (64 * P) q (only-both (only-both (only-both first-low (rest-low (i .head))) (second-low g₁ refl es₂)) new-low) in
+          let head-is : i .head ≡ headBehind k s g₀ m = x₁ .head ∙ ap (headBehind k s g₀) count-is in
+          let tail-is : i .tail ≡ tailBehind k s g₀ m = x₁ .tail ∙ ap (tailBehind k s g₀) count-is in
+          let tail₂-is : h .tail ≡ tailBehind k s g₁ (a .moved) = x₃ .tail ∙ ap (tailBehind k s g₁) (o .2) in
+          let stores : both (allPrepared u P f (A ∷ S)) (zeroed a) ≡ G = rw (first-stores, second-stores i i-left e, head-is) in
+          let changes : allChanges u P f (A ∷ S) ++ alsoCommitted a ≡ committing a (i .head) (i .tail) (h .tail)
+          = rw (log-changes u P f A k s g₀ m et refl all-long seeks some-first, second-changes i i-left e, head-is, tail-is, tail₂-is) in
+          let list = rw W at (x₆ .list l G (rw W group)) in
+          let gs : storeList (64 * P) (commit u G (changesOf (take zs cs)))
+          ≡ storeList (64 * P) (commit u (both (allPrepared u P f (A ∷ S)) (zeroed a)) (allChanges u P f (A ∷ S) ++ alsoCommitted a))
+          = rw (stores, changes, put-changes c₀ cs zs _ x₅ room most) in
+          let done-list = rw gs at list in
+          let ok : lacksRoom u P f (A ∷ S) ≡ false = lacks ∙ no in
+          rw ok (comes-words done-list (omega (arith, x₇, q .long)))

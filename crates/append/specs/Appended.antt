@@ -1,58 +1,36 @@
 -- What an append takes, stores and commits, and what it comes to. v is the volume, b are the marks and s the sizes.
 use Prim.Native.Nat.{ℕ, _+_, _*_, _-_, _/_, _≤_, _<_}
 use mathlib.Core.Path.{_≡_}
-use mathlib.Core.Bool.{Bool, true, false, cond, _&&_, _||_, not}
+use mathlib.Core.Bool.{Bool, true, false, cond, _&&_, not}
 use mathlib.Core.List.{List, [], _∷_, _++_}
-use mathlib.Core.Option.{some}
-use lib.Dec.{ltb, eqb}
+use lib.Dec.{eqb}
 use lib.ListN.{length}
-use Rattle.model.specs.Lists.{lowestFew}
 use Rattle.model.specs.Words.{Mem, word}
 use Rattle.model.specs.Layout.{validWord, headWord, tailWord}
 use Rattle.model.specs.Accept.{isValid}
-use Rattle.model.specs.Stores.{Stores, oneWord, run, both, onlyIf, storeList}
+use Rattle.model.specs.Stores.{Stores, oneWord, both, onlyIf, storeList}
 use Rattle.model.specs.Answer.{Answer, done, firstRefusal}
 use Rattle.model.specs.Calls as calls
-use Rattle.model.specs.Calls.{Change, Action, entriesOnly, besides, lowestRun, runFrom, actionChecks, actionGroups}
+use Rattle.model.specs.Calls.{Change, Action, layPages, entriesOnly, actionChecks, actionGroups}
 use Rattle.inodes.specs.Judged.{Closed}
 use Rattle.layout.specs.declared.Sizes.{Sizes}
 use Rattle.stores.specs.Added.{Added, element}
 use Rattle.entries.specs.Table.{entriesOf}
 use Rattle.append.specs.declared.Append.{Append}
-use Rattle.append.specs.declared.Room.{Room}
 use Rattle.laying.specs.declared.Laid.{Laid}
-use Rattle.laying.specs.Laying.{mayTake, toLay, headBehind, tailBehind}
+use Rattle.laying.specs.Laying.{toLay, headBehind, tailBehind}
 
 -- the tail that the log of inode k goes on with; 0 where it is written anew
 unfoldable pub oldTail : Mem → Bool → ℕ → ℕ
 oldTail u anew k = cond anew 0 (u (tailWord k))
 
--- how many entries map n data pages that are a run
-unfoldable pub writes : ℕ → ℕ
-writes n = cond (eqb n 0) 0 1
-
--- Taking n log pages and c data pages.
-module _ (b : List ℕ) (s : Sizes) (n c : ℕ) where
-  unfoldable pub dataTaken : List ℕ
-  dataTaken = runFrom c (lowestRun (mayTake b s) (s .pages) c)
-
-  unfoldable pub logTaken : List ℕ
-  logTaken = lowestFew (besides (mayTake b s) dataTaken) (s .pages) 0 n
-
-  -- r is what is answered, and k are the marks afterwards
-  pub record Taken (r : Room) (k : List ℕ) : Type 0 where
-    pub answer : not (r .enough) ≡ (ltb (length dataTaken) c || ltb (length logTaken) n)
-    pub start : r .enough ≡ true → lowestRun (mayTake b s) (s .pages) c ≡ some (r .start)
-    pub inside : r .start ≤ s .pages
-    pub left : mayTake k s ≡ besides (mayTake b s) dataTaken
-
 -- the head h of the log of inode k, where the log goes on and its tail t was 0
 unfoldable pub headOf : Bool → ℕ → ℕ → ℕ → Stores
 headOf anew k t h = onlyIf (not anew && eqb t 0) (oneWord (headWord k) h)
 
--- what the first group stores beside the first log, behind tail t: its head h, and the data from page p on
-unfoldable pub restOf : Append → ℕ → ℕ → ℕ → List ℕ → Stores
-restOf a t h p ds = both (headOf (a .anew) (a .log) t h) (run (64 * p) (length ds) (element ds))
+-- what the first group stores beside the first log, behind tail t: its head h, and the data ds on the pages ps
+unfoldable pub restOf : Append → ℕ → ℕ → List ℕ → List ℕ → Stores
+restOf a t h ps ds = both (headOf (a .anew) (a .log) t h) (layPages ps (element ds))
 
 -- what it stores of the second log, that of inode k: the entries es, laid at g, and the head
 unfoldable pub secondStores : List ℕ → Sizes → Laid → ℕ → List (List ℕ) → Stores
@@ -124,7 +102,7 @@ outcome v x =
     (done (storeList (64 * word v 0) (actionGroups (word v) (word v 0) (word v 1) x)))
 
 -- An append can be made: its inodes are below the inode count and those of both logs valid, the second one's also where nothing is moved;
--- its first log gets an entry or is written anew, its data are whole pages, and the list has room.
+-- its first log gets an entry or is written anew, its data are whole pages, nine at most, and the list has room.
 pub record Ready (v b : List ℕ) (a : Append) (ws ds l : List ℕ) : Type 0 where
   pub volume : Closed v b
   pub log : a .log < word v 1
@@ -136,4 +114,6 @@ pub record Ready (v b : List ℕ) (a : Append) (ws ds l : List ℕ) : Type 0 whe
   pub some-entry : a .anew ≡ false → 0 < firstCount a ws + length ds / 64
   pub few : length ws < 4294967296
   pub whole : 64 * (length ds / 64) ≡ length ds
-  pub room : 18 * (length ws / 8 + 1) + 2 * length ds + 44 ≤ length l
+  pub nine : length ds / 64 ≤ 9
+  pub file : a .file < 4294967296
+  pub room : 18 * (length ws / 8 + length ds / 64) + 2 * length ds + 44 ≤ length l

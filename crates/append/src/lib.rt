@@ -1,20 +1,19 @@
 // One append, whole: it takes the pages, fills the first group and commits, or answers that there are not enough pages. v is the volume,
 // which is accepted and whose journal is closed; marks has a byte for each page, 0 where the page is not in use.
 ghost use mathlib.Core.Path.{_≡_};
-ghost use mathlib.Core.Bool.{_&&_, not, cond};
+ghost use mathlib.Core.Bool.{cond};
 ghost use mathlib.Core.List.{[], _∷_};
 ghost use Prim.Native.Nat.{_+_, _*_, _/_, _≤_, _<_, _^_};
-ghost use lib.Dec.{ltb};
 ghost use lib.ListN.{length};
-ghost use Rattle.model.specs.Lists.{lowestFew};
 ghost use Rattle.model.specs.Words.{word};
 ghost use Rattle.model.specs.Layout.{tailWord};
+ghost use Rattle.model.specs.Calls.{layPages};
 ghost use Rattle.stores.specs.Emitted.{Emitted};
-ghost use Rattle.stores.specs.Added.{Added};
+ghost use Rattle.stores.specs.Added.{Added, element};
+ghost use Rattle.space.specs.Space.{ArePages};
 ghost use Rattle.answer.specs.Comes.{Comes};
-ghost use Rattle.laying.specs.Laying.{mayTake, Layable};
-ghost use Rattle.append.specs.Appended.{oldTail, writes, Taken, headOf, restOf, SecondLaid, zeroed, pairsOf, committing, actionOf};
-ghost use Rattle.append.specs.Appended.{outcome, Ready};
+ghost use Rattle.laying.specs.Laying.{Layable};
+ghost use Rattle.append.specs.Appended.{oldTail, headOf, restOf, SecondLaid, zeroed, pairsOf, committing, actionOf, outcome, Ready};
 use answer::Answer;
 use laying::Laid;
 use layout::Sizes;
@@ -46,49 +45,6 @@ fn old_tail(v: &[u8], anew: bool, k: usize) -> usize
     words::word_at(v, layout::tail_word(k)) as usize
 }
 
-// Answers how many entries map count data pages that are a run.
-// Example: write_entries(0) is 0, and write_entries(2) is 1.
-fn write_entries(count: usize) -> usize
-    ensures { λ r. ⌜ (r ≡ writes count) × (r ≤ 1) ⌝ }
-{
-    if count == 0 {
-        return 0;
-    }
-    1
-}
-
-// What an append gets: whether there are pages enough and, if so, the first of its data pages.
-struct Room {
-    enough: bool,
-    start: usize,
-}
-
-// Answers whether there are pages enough: a run for the data, which starts below the page count, and n further pages.
-// Example: of 16 pages, 8 inodes and marks that are all 0 has_room(marks, sizes, 2, 14) is true, and has_room(marks, sizes, 16, 14) false.
-fn has_room(marks: &[u8; 4096], sizes: Sizes, start: usize, n: usize) -> bool
-    requires { ⌜ sizes .pages ≤ 4096 ⌝ }
-    ensures { λ r. ⌜ r ≡ (ltb start (sizes .pages)
-        && not (ltb (length (lowestFew (mayTake (now (marks .entry)) sizes) (sizes .pages) 0 n)) n)) ⌝ }
-{
-    if start < sizes.pages {
-        return space::has_free(marks, sizes, n);
-    }
-    false
-}
-
-// Takes count data pages, the lowest run of so many free ones, which it marks. Answers where it starts, and whether n pages are left for
-// the logs.
-// Example: where pages 3 and 4 alone are free, take_pages(marks, sizes, 1, 1) has room and the data starts at page 3;
-// take_pages(marks, sizes, 2, 1) has no room.
-fn take_pages(marks: &mut [u8; 4096], sizes: Sizes, n: usize, count: usize) -> Room
-    requires { ⌜ (sizes .pages ≤ 4096) × (length (now marks) ≡ 4096) × (0 < sizes .pages) ⌝ }
-    ensures { λ r. ⌜ Taken (now (marks .entry)) sizes n count r (now (marks .exit)) ⌝ }
-{
-    let start = space::take_run(marks, sizes, count);
-    let enough = has_room(marks, sizes, start, n);
-    Room { enough, start }
-}
-
 // Puts the head of the log of inode k, which is laid as far as g, into the first group, where the log goes on and its tail was 0.
 // Answers the index behind the group.
 // Example: where the log of inode 1 was empty and page 5 is its first page, it puts 73, 5.
@@ -106,18 +62,40 @@ fn put_head(list: &mut [u64], g: Laid, anew: bool, k: usize, tail: usize) -> usi
     stores::put(list, 0, end, layout::head_word(k) as u64, g.head as u64)
 }
 
-// Puts the rest of an append to its first log, which is laid as far as g, into the first group: the head, and the data from page start
-// on. Answers the index behind the group.
+// Puts data into the first group, which ends at end: 64 words for each page of `pages`. Answers the index behind the group.
+// Example: where pages are 5 and 8 it puts the words 320 to 383 and 512 to 575.
+fn put_data(list: &mut [u64], end: usize, pages: &[u64], data: &[u64]) -> usize
+    requires { ⌜ ArePages (length (now pages)) (now pages) × (64 * length (now pages) ≤ length (now «data»))
+        × (end + 128 * length (now pages) ≤ length (now list)) ⌝ }
+    ensures { λ r. ⌜ Added (now (list .entry)) 0 end (layPages (now (pages .entry)) (element (now («data» .entry)))) r (now (list .exit))
+        × (r ≤ end + 128 * length (now (pages .entry))) ⌝ }
+{
+    let n = pages.len();
+    let mut e = end;
+    let mut i: usize = 0;
+    while i < n {
+        let p = pages[i] as usize;
+        let w = layout::PAGE_WORDS * p;
+        let a = layout::PAGE_WORDS * i;
+        let b = a + layout::PAGE_WORDS;
+        e = stores::put_words(list, e, w, &data[a..b]);
+        i = i + 1;
+    }
+    e
+}
+
+// Puts the rest of an append to its first log, which is laid as far as g, into the first group: the head, and the data on these pages.
+// Answers the index behind the group.
 // Example: of an append without data to a log that goes on and has a page it puts nothing.
-fn put_rest(list: &mut [u64], g: Laid, a: Append, tail: usize, start: usize, data: &[u64]) -> usize
-    requires { ⌜ (a .log < 2 ^ 32) × (64 * start + length (now «data») ≤ 262144)
-        × (g .end + 2 * length (now «data») + 2 ≤ length (now list)) ⌝ }
-    ensures { λ r. ⌜ Added (now (list .entry)) 0 (g .end) (restOf a tail (g .head) start (now («data» .entry))) r (now (list .exit))
-        × (r ≤ g .end + 2 * length (now («data» .entry)) + 2) ⌝ }
+fn put_rest(list: &mut [u64], g: Laid, a: Append, tail: usize, pages: &[u64], data: &[u64]) -> usize
+    requires { ⌜ (a .log < 2 ^ 32) × ArePages (length (now pages)) (now pages) × (64 * length (now pages) ≤ length (now «data»))
+        × (g .end + 128 * length (now pages) + 2 ≤ length (now list)) ⌝ }
+    ensures { λ r. ⌜ Added (now (list .entry)) 0 (g .end) (restOf a tail (g .head) (now (pages .entry)) (now («data» .entry))) r
+        (now (list .exit))
+        × (r ≤ g .end + 128 * length (now (pages .entry)) + 2) ⌝ }
 {
     let e = put_head(list, g, a.anew, a.log, tail);
-    let w = layout::PAGE_WORDS * start;
-    stores::put_words(list, e, w, data)
+    put_data(list, e, pages, data)
 }
 
 // Lays the entries that go to the second log, that of inode k, from g on, and puts its head where its tail was 0; nothing where there are
@@ -203,7 +181,7 @@ fn to_commit(words: &mut [u64], a: Append, g: Laid, second_tail: usize) -> usize
 
 // Makes an append: takes its pages, fills the list with the first group and what commits it, and answers Number with the count of words
 // filled; NoSpace where there are not enough pages, and then leaves the list. The entries have eight words each, the data 64 words for
-// each page.
+// each page, of which there are nine at most: a write of 4,096 bytes covers no more.
 // Example: of one entry on a page that has room for it, and no data, the list has 22 words: eight pairs and a fence, the tail and a fence.
 pub fn make(
     v: &[u8],
@@ -222,15 +200,17 @@ pub fn make(
     let second_tail = old_tail(v, false, a.second);
     let n = entries.len() / layout::ENTRY_WORDS - a.moved;
     let count = data.len() / layout::PAGE_WORDS;
-    let more = write_entries(count);
-    let needed = laying::pages_needed(tail, n + more);
-    let second_needed = laying::pages_needed(second_tail, a.moved);
-    let room = take_pages(marks, sizes, needed + second_needed, count);
-    if !room.enough {
+    let mut pages = [0u64; 9];
+    if !space::take_pages(marks, sizes, count, &mut pages) {
         return Answer::NoSpace;
     }
-    let start = room.start;
-    let e = entries::write_words(a.file, start as u64, count as u64, a.size);
+    let mut writes = [0u64; 72];
+    let more = entries::put_stretches(&pages[..count], a.file, a.size, &mut writes);
+    let needed = laying::pages_needed(tail, n + more);
+    let second_needed = laying::pages_needed(second_tail, a.moved);
+    if !space::has_free(marks, sizes, needed + second_needed) {
+        return Answer::NoSpace;
+    }
     let m = layout::ENTRY_WORDS * more;
     let split = layout::ENTRY_WORDS * n;
     let begin = Laid {
@@ -239,9 +219,9 @@ pub fn make(
         tail,
         from: 0,
     };
-    let g = laying::lay_log(list, marks, sizes, begin, &entries[..split], &e[..m]);
+    let g = laying::lay_log(list, marks, sizes, begin, &entries[..split], &writes[..m]);
     let behind = Laid {
-        end: put_rest(list, g, a, tail, start, data),
+        end: put_rest(list, g, a, tail, &pages[..count], data),
         head: 0,
         tail: second_tail,
         from: g.from,

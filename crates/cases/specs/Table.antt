@@ -1,4 +1,4 @@
--- Cases A to K of document 01, "Campsite examples", and three rows more, as rows of one table. A row is data: where it starts, what is
+-- Cases A to K of document 01, "Campsite examples", and eleven rows more, as rows of one table. A row is data: where it starts, what is
 -- called, what is expected.
 use Prim.Native.Nat.{ℕ, _+_, _%_}
 use mathlib.Core.List.{List, [], _∷_}
@@ -136,4 +136,23 @@ table =
     ∷ record { step = calls B (link A1 A2); answer = fills 22; facts = namesAre 2 ∷ wordIs 66 1152 ∷ freeIs 13 ∷ [] }
     ∷ record { step = calls B (rename A1 A2); answer = fills 38; facts = namesAre 1 ∷ wordIs 66 1216 ∷ freeIs 13 ∷ [] }
     ∷ record { step = calls linked (unlink A1); answer = fills 22; facts = namesAre 1 ∷ wordIs 72 1 ∷ freeIs 13 ∷ [] }
+    -- Document 02, order 3. Of two files with a page each in turn one is taken away, so that pages 5 and 6 are free, and 8 to 15.
+    ∷ record { step = calls B (create A2); answer = fills 44; facts = [] }
+    ∷ record { step = calls 16 (write 1 0 (bytes 1)); answer = isDone; facts = dataIs 1 (3 ∷ []) ∷ logIs 1 (4 ∷ []) ∷ [] }
+    ∷ record { step = calls 17 (write 2 0 (bytes 1)); answer = isDone; facts = dataIs 2 (5 ∷ []) ∷ logIs 2 (6 ∷ []) ∷ [] }
+    ∷ record { step = calls 18 (write 1 512 (bytes 1)); answer = isDone; facts = dataIs 1 (3 ∷ 7 ∷ []) ∷ [] }
+    ∷ record { step = calls 19 (unlink A2); answer = isDone; facts = freeIs 10 ∷ [] }
+    ∷ record { step = calls 20 (create A2); answer = isDone; facts = [] }
+    -- Nine pages have no run: the lowest nine are taken, with an entry for 5 and 6 and one for 8 to 14, and page 15 is left for the log.
+    ∷ record {
+      step = calls 21 (write 2 1 (bytes 4096));
+      answer = fills 1192;
+      facts =
+          dataIs 2 (5 ∷ 6 ∷ 8 ∷ 9 ∷ 10 ∷ 11 ∷ 12 ∷ 13 ∷ 14 ∷ []) ∷ logIs 2 (15 ∷ [])
+          ∷ wordIs 961 0 ∷ wordIs 962 5 ∷ wordIs 963 2 ∷ wordIs 964 4097
+          ∷ wordIs 969 2 ∷ wordIs 970 8 ∷ wordIs 971 7 ∷ wordIs 972 4097
+          ∷ wordIs 82 7808 ∷ sizeIs 2 4097 ∷ bytesAre 2 1023 (3 ∷ 4 ∷ 5 ∷ []) ∷ freeIs 0 ∷ [];
+    }
+    -- Then there is no page for a byte more.
+    ∷ record { step = calls 22 (write 1 0 (bytes 1)); answer = refuses 12; facts = [] }
     ∷ []

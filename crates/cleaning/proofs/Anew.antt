@@ -150,7 +150,7 @@ module _ (v l : List ℕ) (n : ℕ) (places marks : List ℕ) (g : Gated v root 
           let s = length-take (8 * r) ws in
           let t = fill-long v l (Number n) places marks g n refl in
           rw f (one-log-ready v marks (anewAppend k) (take (8 * r) ws) [] l closed-here refl refl is-below is-valid (omega (arith, is-below))
-          (λ e. absurd (let j : _≡_ {A = ℕ} 0 1 = cc in omega arith)) (omega arith) refl (omega arith))
+          (λ e. absurd (let j : _≡_ {A = ℕ} 0 1 = cc in omega arith)) (omega arith) refl (omega arith) (omega arith) (omega arith))
 
       -- x is the tail, read from word w
       module _ (w x : ℕ) (i : w ≡ tailWord k) (b : x ≡ m w) where

@@ -1,5 +1,5 @@
 -- A table of log entries, eight words each: what the functions that lay entries into it leave.
-use Prim.Native.Nat.{ℕ, zero, suc, _+_, _≤_, _<_}
+use Prim.Native.Nat.{ℕ, zero, suc, _+_, _-_, _≤_, _<_}
 use mathlib.Core.Path.{_≡_}
 use mathlib.Core.List.{List, [], _∷_, _++_}
 use lib.ListN.{length, getD}
@@ -27,9 +27,13 @@ pub record Holds (l m : List ℕ) (n : ℕ) (es : List (List ℕ)) : Type 0 wher
 abbrev pub Put : List ℕ → List ℕ → ℕ → List ℕ → Type 0
 Put l m n e = Holds l m (n + 1) (entriesOf l 0 n ++ (e ∷ []))
 
--- c file pages from i on stand on consecutive data pages, by the table t, and no more do
+-- the data page of file page i, by a table t of the data pages of those from `file` on
+abbrev pub dataPage : List ℕ → ℕ → ℕ → ℕ
+dataPage t file i = getD t (i - file) 0
+
+-- c elements of the table t from element i on are consecutive pages, and no more are
 pub record Runs (t : List ℕ) (i c : ℕ) : Type 0 where
   pub some : 1 ≤ c
-  pub to : i + c ≤ 128
+  pub to : i + c ≤ length t
   pub on : (j : ℕ) → j < c → getD t (i + j) 0 ≡ getD t i 0 + j
-  pub longest : i + c < 128 → getD t (i + c) 0 ≡ getD t i 0 + c → ⊥
+  pub longest : i + c < length t → getD t (i + c) 0 ≡ getD t i 0 + c → ⊥

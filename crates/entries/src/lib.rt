@@ -1,7 +1,7 @@
 // Log entries as their eight words, "unused words are written 0"; and several of them laid into a lent table, entry n from element 8 n on.
 ghost use mathlib.Core.Path.{_≡_};
 ghost use mathlib.Core.Bool.{true};
-ghost use Prim.Native.Nat.{_+_, _*_, _-_, _≤_, _<_};
+ghost use Prim.Native.Nat.{_+_, _*_, _-_, _≤_, _<_, _^_};
 ghost use lib.ListN.{length, getD, take};
 ghost use Rattle.model.specs.Words.{leFrom, word};
 ghost use Rattle.model.specs.Entry.{writeWords, sizeWords, nameWords, addWords, removeWords};
@@ -10,7 +10,7 @@ ghost use Rattle.model.specs.Calls.{stretchEntries, cleanFile, cleanNames};
 ghost use Rattle.directory.specs.Fields.{nameAt, fieldAt};
 ghost use Rattle.directory.specs.Places.{standing, Filled};
 ghost use Rattle.files.specs.State.{fileFrom};
-ghost use Rattle.entries.specs.Table.{Holds, Put, Runs};
+ghost use Rattle.entries.specs.Table.{Holds, Put, dataPage, Runs};
 
 // The kind of a write.
 const WRITE: u64 = 1;
@@ -164,16 +164,17 @@ pub fn clean_names(v: &[u8], places: &[u16; 224], count: usize, words: &mut [u64
     i
 }
 
-// Answers how many file pages from page i on, which is mapped, stand on consecutive data pages.
-// Example: where file pages 3, 4 and 5 alone are mapped, to 70, 71 and 73, run_length(table, 3) is 2 and run_length(table, 5) is 1.
-fn run_length(table: &[u64; 128], i: usize) -> usize
-    requires { ⌜ i < 128 ⌝ }
+// Answers how many elements of a table of pages, from element i on, are consecutive pages.
+// Example: where elements 3, 4 and 5 are 70, 71 and 73, run_length(table, 3) is 2, and where element 5 is the last, run_length(table, 5) is 1.
+fn run_length(table: &[u64], i: usize) -> usize
+    requires { ⌜ (i < length (now table)) × (length (now table) ≤ 128) ⌝ }
     ensures { λ r. ⌜ Runs (now (table .entry)) i r ⌝ }
 {
-    let first = files::get(table, i);
+    let n = table.len();
+    let first = table[i];
     let mut c: usize = 1;
-    while i + c < layout::FILE_PAGES {
-        let p = files::get(table, i + c);
+    while i + c < n {
+        let p = table[i + c];
         if p < first {
             return c;
         }
@@ -185,24 +186,26 @@ fn run_length(table: &[u64; 128], i: usize) -> usize
     c
 }
 
-// Lays the writes of a file's clean log into the table, "one kind 1 entry for each longest stretch of consecutive file pages on
-// consecutive data pages, ascending, with the final size", and answers how many.
-// Example: where file pages 3, 4 and 6 alone are mapped, to 70, 71 and 73, put_stretches(table, 3584, words) is 2, and the entries are
+// Lays writes into the table `words`, "one kind 1 entry for each longest stretch of consecutive file pages on consecutive data pages,
+// ascending, with the final size", and answers how many. Element i of `table` is the data page of file page file + i, or 0 where it has none.
+// Example: where the elements of table are 70, 71, 0 and 73, put_stretches(table, 3, 3584, words) is 2, and the entries are
 // write_words(3, 70, 2, 3584) and write_words(6, 73, 1, 3584).
-fn put_stretches(table: &[u64; 128], size: u64, words: &mut [u64]) -> usize
-    requires { ⌜ length (now words) ≡ 1792 ⌝ }
+pub fn put_stretches(table: &[u64], file: u64, size: u64, words: &mut [u64]) -> usize
+    requires { ⌜ (length (now table) ≤ 128) × (8 * length (now table) ≤ length (now words)) × (file < 2 ^ 32) ⌝ }
     ensures { λ r. ⌜ Holds (now (words .entry)) (now (words .exit)) r
-        (stretchEntries size (stretches (fileFrom size (now (table .entry)) .page) 128 0)) × (r ≤ 128) ⌝ }
+        (stretchEntries size (stretches (dataPage (now (table .entry)) file) (length (now (table .entry))) file))
+        × (r ≤ length (now (table .entry))) ⌝ }
 {
+    let len = table.len();
     let mut i: usize = 0;
     let mut n: usize = 0;
-    while i < layout::FILE_PAGES {
-        let p = files::get(table, i);
+    while i < len {
+        let p = table[i];
         if p == 0 {
             i = i + 1;
         } else {
             let c = run_length(table, i);
-            put_entry(words, n, &write_words(i as u64, p, c as u64, size));
+            put_entry(words, n, &write_words(file + i as u64, p, c as u64, size));
             i = i + c;
             n = n + 1;
         }
@@ -218,7 +221,7 @@ pub fn clean_file(table: &[u64; 128], size: u64, words: &mut [u64]) -> usize
     requires { ⌜ length (now words) ≡ 1792 ⌝ }
     ensures { λ r. ⌜ Holds (now (words .entry)) (now (words .exit)) r (cleanFile (fileFrom size (now (table .entry)))) × (r ≤ 128) ⌝ }
 {
-    let n = put_stretches(table, size, words);
+    let n = put_stretches(table, 0, size, words);
     if 0 < n {
         return n;
     }

@@ -1,16 +1,16 @@
 -- A log laid step by step: a page is turned where the tail's page is full, and an entry takes the next slot; each step leaves less to lay.
-use Rattle.model.proofs.Prelude.{ℕ, zero, suc, _+_, _*_, _-_, _/_, _%_, _≤_, _<_, _≡_, refl, sym, ap, _∙_, fun-ext, Bool, true, false, _&&_, List, [], _∷_, _++_, append-nil, arith, add-one, zero-add, and-false, leb, ltb, length, getD, take, drop, length-append, length-drop, length-take-le, getD-take, getD-drop, eq-eqb, ne-eqb, lt-ltb, le-ltb, lt-leb}
+use Rattle.model.proofs.Prelude.{ℕ, zero, suc, _+_, _*_, _-_, _/_, _%_, _≤_, _<_, _≡_, refl, sym, ap, _∙_, fun-ext, Bool, true, false, _&&_, List, [], _∷_, _++_, append-nil, arith, add-one, zero-add, and-false, leb, ltb, length, getD, take, drop, length-append, eq-eqb, ne-eqb, lt-ltb, le-ltb, lt-leb}
 use Rattle.model.specs.Lists.{lowest, lowestFew, has, indexOf, orElse}
 use Rattle.model.specs.Layout.{footer}
 use Rattle.model.specs.Stores.{oneWord, noWords, run, both}
 use Rattle.model.specs.Calls.{layEntries, tailAfter}
-use Rattle.model.proofs.Tests.{by-bool, by-eq, by-lt, by-range, and-left, not-true-false}
+use Rattle.model.proofs.Tests.{by-bool, by-eq, by-lt, and-left, not-true-false}
 use Rattle.model.proofs.Lists.{few-holds, few-length, has-head, values-at}
 use Rattle.model.proofs.Frame.Placed.{in-bounds}
 use Rattle.marks.specs.Marks.{unmarked}
 use Rattle.layout.specs.declared.Sizes.{Sizes}
-use Rattle.stores.specs.Added.{Added, element}
-use Rattle.stores.proofs.Groups.{adding-all, adding-step, adding-then, added-none}
+use Rattle.stores.specs.Added.{Added, element, elementFrom}
+use Rattle.stores.proofs.Groups.{adding-all, adding-step, adding-then, added-none, run-same, slice-run}
 use Rattle.space.proofs.Few.{few-next, few-found-first}
 use Rattle.entries.specs.Table.{part, entriesOf}
 use Rattle.entries.proofs.Entries.{length-entries}
@@ -307,16 +307,11 @@ module _ (b : List ℕ) (s : Sizes) where
 
 -- `lay_entries`: the words of the i-th entry, as the code takes them from the table, are its own.
 
-run-same : (w n : ℕ) (f g : ℕ → ℕ) → ((j : ℕ) → j < n → f j ≡ g j) → run w n f ≡ run w n g
-unfolding run
-run-same w n f g h = fun-ext (λ i. by-range w (w + n) i (λ e p q. rw (e, h (i - w) (omega arith))) (λ e p. rw e))
-
-slice-run : (ws : List ℕ) (a w : ℕ) → a + 8 ≤ length ws → run w (length (take 8 (drop a ws))) (element (take 8 (drop a ws))) ≡ run w 8 (λ j. getD (part ws a 8) j 0)
-unfolding element
-slice-run ws a w room =
-    rw (length-take-le 8 (drop a ws) (rw length-drop (omega arith)))
-    (run-same w 8 (λ j. getD (take 8 (drop a ws)) j 0) (λ j. getD (part ws a 8) j 0)
-    (λ j h. getD-take 8 (drop a ws) j 0 h ∙ getD-drop a ws j 0 ∙ sym (values-at (λ o. getD ws o 0) a 8 j h)))
+entry-run : (ws : List ℕ) (a w : ℕ) → a + 8 ≤ length ws → run w (length (take 8 (drop a ws))) (element (take 8 (drop a ws))) ≡ run w 8 (λ j. getD (part ws a 8) j 0)
+unfolding elementFrom
+entry-run ws a w room =
+    slice-run ws a 8 w room
+    ∙ run-same w 8 (λ j. getD ws (a + j) 0) (λ j. getD (part ws a 8) j 0) (λ j h. sym (values-at (λ o. getD ws o 0) a 8 j h))
 
 next-entry : (ws : List ℕ) (i n : ℕ) → i < n → entriesOf ws (8 * i) (n - i) ≡ part ws (8 * i) 8 ∷ entriesOf ws (8 * (i + 1)) (n - (i + 1))
 unfolding entriesOf
@@ -361,7 +356,7 @@ module _ (b : List ℕ) (s : Sizes) (l : List ℕ) (g : Laid) (ws : List ℕ) wh
       going-next z p w =
           let k : 8 * i + 8 - 8 * i ≡ 8 = omega arith in
           let w₁ : Added o 0 (t .end) (run (t .tail / 8) 8 (λ j. getD (part ws (8 * i) 8) j 0)) z p
-          = rw (← slice-run ws (8 * i) (t .tail / 8) (omega arith)) (rw k at w) in
+          = rw (← entry-run ws (8 * i) (t .tail / 8) (omega arith)) (rw k at w) in
           record {
             layable = on-layable b s t (r .there) (r .slot) (n - (i + 1)) z turned-layable;
             laying = λ es y.

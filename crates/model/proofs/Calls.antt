@@ -1,4 +1,5 @@
 -- What each call owes to the crash library: dead words only before the commit, and the map after it.
+pub mod DataPages
 pub mod Room
 pub mod Still
 pub mod Changed

@@ -1,7 +1,6 @@
 -- How long the store lists are: the words that a group stores stand in a list, and the group's text has two words for each of them at most.
 use Rattle.model.proofs.Prelude.{_≡_, refl, ℕ, zero, suc, _+_, _-_, _*_, _/_, _%_, _≤_, _<_, Bool, true, false, cond, _&&_, List, [], _∷_, _++_, Option, none, some, arith, length, getD, length-append, length-map, leb, ltb, eqb, leb-true, ltb-true, ltb-false, eq-eqb, ne-eqb, le-leb, lt-leb}
-use Rattle.model.specs.Lists.{bit, allBelow, valuesFrom, has, indexOf, orElse}
-use Rattle.model.specs.Stretches.{stretches}
+use Rattle.model.specs.Lists.{bit, valuesFrom, has, indexOf, orElse}
 use Rattle.model.specs.Words.{Mem}
 use Rattle.model.specs.Layout.{headWord, tailWord, footer, root, listWords}
 use Rattle.model.specs.Journal.{dequeueWord, enqueueWord, targetWord, oldWord, nextPosition, positions, openCount, openPositions, openTargets, isOpen, view, journalOk}
@@ -10,17 +9,18 @@ use Rattle.model.specs.State.{fileOf, namesOf, inodeOf}
 use Rattle.model.specs.Accept.{free, namesOk, viewOk, accepted}
 use Rattle.model.specs.FileMap.{Call, create, link, unlink, rename, write, setSize, clean, recover}
 use Rattle.model.specs.Stores.{Stores, oneWord, noWords, both, onlyIf, listed, storeList}
-use Rattle.model.specs.Calls.{layEntries, layPages, tailAfter, pagesFor, tailPages, Change, commitOne, journalPairs, targets, commitTogether, commit, stretchEntries, lowestRun, runFrom, Append, entriesOnly, dataPages, appended, freshPages, freshLog, prepared, allPrepared, allChanges, actionChecks, actionGroups, release, invalidInode, createAction, linkAction, unlinkAction, sameInode, renameAction, writeAppend, writeAction, cutsPage, sizeAppend, sizeAction, cleanNames, cleanEntries, cleanAction, oldValues, recoverAction, action, checks, groups}
+use Rattle.model.specs.Calls.{layEntries, layPages, tailAfter, pagesFor, tailPages, Change, commitOne, journalPairs, targets, commitTogether, commit, stretchEntries, Append, entriesOnly, dataPages, appended, freshPages, freshLog, prepared, allPrepared, allChanges, actionChecks, actionGroups, release, invalidInode, createAction, linkAction, unlinkAction, sameInode, renameAction, writeAppend, writeAction, cutsPage, sizeAppend, sizeAction, cleanNames, cleanEntries, cleanAction, oldValues, recoverAction, action, checks, groups}
 use Rattle.model.specs.Promises.{mostWords}
 use Rattle.model.proofs.Tests.{by-bool, by-eq, by-lt, ands, cond-some, bit-le}
-use Rattle.model.proofs.Lists.{allBelow-at, lowest-is, length-values, values-at, has-left, has-right, values-has, getD-index, has-head, few-length}
+use Rattle.model.proofs.Lists.{length-values, has-left, has-right, values-has, getD-index, has-head, few-length}
 use Rattle.model.proofs.Frame.View.{view-fine}
 use Rattle.model.proofs.State.NamesAfter.{lastName, release-is}
-use Rattle.model.proofs.State.Stretches.{no-stretch, one-stretch}
+use Rattle.model.proofs.State.Stretches.{stretches-length}
 use Rattle.model.proofs.State.Clean.{clean-file-length}
 use Rattle.model.proofs.Crash.Stores.{Only, only-none, only-word, only-both}
 use Rattle.model.proofs.Crash.Journal.{journal-parts, targetsOf, targets-in}
 use Rattle.model.proofs.Crash.History.{Passed}
+use Rattle.model.proofs.Calls.DataPages.{pages-few}
 use Rattle.model.proofs.Calls.Room.{free-bounds}
 use Rattle.model.proofs.Calls.Stored.{fresh-on, prepared-on, changes-on}
 use Rattle.model.proofs.Calls.Actions.{both-none, one-prepared, one-changes, only-entries, fresh-anew, anew-prepared, anew-changes}
@@ -175,51 +175,38 @@ most-pages ps f =
           rw q at (values-has at 0 (64 * length ps) j (omega arith) (omega arith));
     }
 
--- An append. Its data is a run, so that it has one entry more at most.
+-- An append. Its data has an entry for each page at most.
 module _ (u : Mem) (P N : ℕ) (a : Append) where
   abbrev f : ℕ → Bool
   f = free u P N
 
-  run-length : (n : ℕ) (o : Option ℕ) → length (runFrom n o) ≤ n
-  run-length n none = omega arith
-  run-length n (some p) = rw length-values (omega arith)
-
   data-length : length (dataPages u P f a) ≤ a .count
   unfolding dataPages
-  data-length = run-length (a .count) (lowestRun f P (a .count))
+  data-length = pages-few f P (λ p h. free-bounds u P N p h .1) (a .count)
 
-  run-stretches : (n k : ℕ) (o : Option ℕ) → lowestRun f P n ≡ o → length (stretches (λ i. getD (runFrom n o) (i - k) 0) n k) ≤ 1
-  unfolding stretches lowestRun
-  run-stretches zero k o e = omega arith
-  run-stretches (suc n) k none e = rw (no-stretch (λ i. getD (runFrom (suc n) none) (i - k) 0) (suc n) k (λ j. refl)) (omega arith)
-  run-stretches (suc n) k (some p) e =
-      let h = lowest-is (λ p. allBelow (suc n) (λ i. f (p + i))) P 0 p e .holds in
-      let b = free-bounds u P N (p + 0) (allBelow-at (suc n) 0 (λ i. f (p + i)) h (omega arith)) in
-      rw (one-stretch (λ i. getD (runFrom (suc n) (some p)) (i - k) 0) (suc n) k p (omega arith) (omega arith)
-      (λ t l. let q : k + t - k ≡ t = omega arith in rw q (values-at (λ i. i) p (suc n) t l))) (omega arith)
-
-  few-entries : length (appended u P f a) ≤ length (a .entries) + 1
-  unfolding appended stretchEntries dataPages
+  few-entries : length (appended u P f a) ≤ length (a .entries) + a .count
+  unfolding appended stretchEntries
   few-entries =
-      let l = run-stretches (a .count) (a .file) (lowestRun f P (a .count)) refl in rw (length-append, length-map) (omega arith)
+      let l = stretches-length (λ i. getD (dataPages u P f a) (i - a .file) 0) (a .count) (a .file) in
+      rw (length-append, length-map) (omega arith)
 
   fresh-short : length (freshLog u P f a) ≤ freshPages u P f a
   unfolding freshLog
   fresh-short = few-length _ P 0 (freshPages u P f a)
 
-  -- of few entries: the data, the entries, and one link or the head
-  module _ (on : a .anew ≡ false) (few : length (appended u P f a) ≤ 7) where
+  -- one that goes on: the data, the entries, and links or the head, one and another for every seven entries
+  module _ (on : a .anew ≡ false) where
     abbrev k : ℕ
     k = a .log
 
-    link-or-head : length (tailPages u k ++ freshLog u P f a) - 1 + cond (eqb (u (tailWord k)) 0) 1 0 ≤ 1
+    link-or-head : length (tailPages u k ++ freshLog u P f a) - 1 + cond (eqb (u (tailWord k)) 0) 1 0 ≤ length (appended u P f a) / 7 + 1
     unfolding tailPages
     link-or-head =
         let l = rw (fresh-on u P f a on) at fresh-short in
         by-eq (u (tailWord k)) 0 (λ e. let g = rw (eq-eqb _ _ e) at l in rw (eq-eqb _ _ e) (omega arith))
         (λ e. let g = rw (ne-eqb _ _ e) at l in rw (ne-eqb _ _ e) (omega arith))
 
-    most-prepared : AtMost (prepared u P f a) (64 * a .count + 8 * length (appended u P f a) + 1)
+    most-prepared : AtMost (prepared u P f a) (64 * a .count + 8 * length (appended u P f a) + (length (appended u P f a) / 7 + 1))
     most-prepared =
         let l = link-or-head in
         let d = data-length in
@@ -282,7 +269,7 @@ module _ (W : ℕ) where
     unfolding entriesOnly
     most-entries d es l =
         let e = only-entries u P (free u P N) false d es in
-        most-less (most-prepared u P N (entriesOnly false d es) refl (rw e (omega arith))) (rw e (omega arith))
+        most-less (most-prepared u P N (entriesOnly false d es) refl) (rw e (omega arith))
 
     release-short : (d : ℕ) (n : List ℕ) → length (release u P N d n) ≤ 1
     release-short d n =
@@ -313,12 +300,12 @@ module _ (W : ℕ) where
 
     -- Files.
 
-    write-short : (k o : ℕ) (bs : List ℕ) → length bs ≤ 4096 → length (storeList W (actionGroups u P N (writeAction u P N k o bs))) ≤ 1176
+    write-short : (k o : ℕ) (bs : List ℕ) → length bs ≤ 4096 → length (storeList W (actionGroups u P N (writeAction u P N k o bs))) ≤ 1306
     unfolding actionGroups writeAction writeAppend storeList
     write-short k o bs l =
         let a = writeAppend u P N k o bs in
         let e = few-entries u P N a in
-        let r = alone-short u P N a refl 585 (most-less (most-prepared u P N a refl (omega arith)) (omega arith)) in
+        let r = alone-short u P N a refl 650 (most-less (most-prepared u P N a refl) (omega arith)) in
         by-eq (length bs) 0 (λ e. rw (eq-eqb _ _ e) (omega arith)) (λ e. rw (ne-eqb _ _ e) (omega arith))
 
     size-short : (k s : ℕ) → length (storeList W (actionGroups u P N (sizeAction u P N k s))) ≤ 168
@@ -327,7 +314,7 @@ module _ (W : ℕ) where
         let a = sizeAppend u P N k s in
         let e = few-entries u P N a in
         let b = bit-le (cutsPage u P N k s) in
-        let r = alone-short u P N a refl 81 (most-less (most-prepared u P N a refl (omega arith)) (omega arith)) in
+        let r = alone-short u P N a refl 81 (most-less (most-prepared u P N a refl) (omega arith)) in
         by-bool (eqb s (fileOf u P N k .size)) (λ e. rw e (omega arith)) (λ e. rw e (omega arith))
 
     -- Clean.

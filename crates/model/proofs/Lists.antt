@@ -282,6 +282,11 @@ module _ (f : ℕ → Bool) where
       (has-cons x i (lowestFew f t (i + 1) n) (rw (lowestFew, e) at h)))
       (λ e. let r = few-holds t (i + 1) (suc n) x (rw (lowestFew, e) at h) in (r .0, omega arith, omega arith))
 
+  pub few-none : (t i : ℕ) → lowestFew f t i 0 ≡ []
+  unfolding lowestFew
+  few-none zero i = refl
+  few-none (suc t) i = refl
+
   pub few-length : (t i n : ℕ) → length (lowestFew f t i n) ≤ n
   unfolding lowestFew
   few-length zero i n = omega arith

@@ -6,7 +6,7 @@ use mathlib.Core.List.{List, [], _∷_, _++_, map}
 use mathlib.Core.Option.{Option, none, some}
 use lib.ListN.{length, getD}
 use lib.Dec.{leb, ltb, eqb}
-use Rattle.model.specs.Lists.{bit, allBelow, valuesFrom, lowest, lowestFew, has, count, indexOf, isSome, orElse}
+use Rattle.model.specs.Lists.{bit, allBelow, sumBelow, valuesFrom, lowest, lowestFew, has, count, indexOf, isSome, orElse}
 use Rattle.model.specs.Stretches.{Stretch, stretches}
 use Rattle.model.specs.Words.{Mem, leFrom}
 use Rattle.model.specs.Layout.{validWord, headWord, tailWord, root, isDirectory, pageEntries, filePages, fileBytes}
@@ -100,10 +100,15 @@ besides f ps p = f p && not (has p ps)
 unfoldable pub lowestRun : (ℕ → Bool) → ℕ → ℕ → Option ℕ
 lowestRun f P n = lowest (λ p. allBelow n (λ i. f (p + i))) P 0
 
--- n pages from a page on, if there is one
-abbrev pub runFrom : ℕ → Option ℕ → List ℕ
-runFrom n none = []
-runFrom n (some p) = valuesFrom (λ i. i) p n
+-- n pages from a page on, if there is one, and else the pages ps
+abbrev pub runOr : ℕ → Option ℕ → List ℕ → List ℕ
+runOr n none ps = ps
+runOr n (some p) ps = valuesFrom (λ i. i) p n
+
+-- n pages for data, of P: "Data goes to the lowest run of enough free pages"; "A write that finds no single run shall take the lowest free
+-- pages one by one, as many as it needs" (document 02, order 3). They are fewer than n where there are not so many.
+unfoldable pub lowestPages : (ℕ → Bool) → ℕ → ℕ → List ℕ
+lowestPages f P n = runOr n (lowestRun f P n) (lowestFew f P 0 n)
 
 -- Appending to one log.
 
@@ -124,11 +129,11 @@ unfoldable pub entriesOnly : Bool → ℕ → List (List ℕ) → Append
 entriesOnly b k es = record { log = k; anew = b; entries = es; file = 0; count = 0; words = λ j. 0; size = 0 }
 
 module _ (u : Mem) (P : ℕ) (f : ℕ → Bool) (a : Append) where
-  -- "Data goes to the lowest run of enough free pages"; no pages where there is no such run
+  -- the pages of the data, ascending: the j-th is that of file page `file` + j
   unfoldable pub dataPages : List ℕ
-  dataPages = runFrom (a .count) (lowestRun f P (a .count))
+  dataPages = lowestPages f P (a .count)
 
-  -- the entries, and "one write entry" for each longest stretch of the data
+  -- the entries, and "one write entry for each longest stretch among them, all with the final size, in file order"
   unfoldable pub appended : List (List ℕ)
   appended = a .entries ++ stretchEntries (a .size) (stretches (λ i. getD dataPages (i - a .file) 0) (a .count) (a .file))
 
@@ -143,13 +148,14 @@ module _ (u : Mem) (P : ℕ) (f : ℕ → Bool) (a : Append) where
   unfoldable pub freshPages : ℕ
   freshPages = pagesFor (oldSlots + length appended) - length oldPages
 
-  -- "then a log page to the lowest free page left"; "Clean writes a new log in the lowest free pages, ascending."
+  -- "Log pages, up to two now, come from the lowest free pages left"; "Clean writes a new log in the lowest free pages, ascending."
   unfoldable pub freshLog : List ℕ
   freshLog = lowestFew (besides f dataPages) P 0 freshPages
 
-  -- 12: "for the data no run long enough, or no page left for the log where it needs one (clean: fewer free than needed)"
+  -- 12: "the free pages are fewer than the data and log pages together". With one data page or none this is document 01's "for the data no
+  -- run long enough, or no page left for the log where it needs one (clean: fewer free than needed)".
   unfoldable pub noRoom : Bool
-  noRoom = ltb (length dataPages) (a .count) || ltb (length freshLog) freshPages
+  noRoom = ltb (sumBelow P (λ p. bit (f p))) (a .count + freshPages)
 
   -- "first group the data pages (all 64 words each), the entries (8 words each), a new log page's link, and the head if the tail was 0"
   unfoldable pub prepared : Stores

@@ -8,9 +8,9 @@ use mathlib.Core.List.{List, [], _∷_}
 use mathlib.Core.Option.{Option, none, some}
 use lib.ListN.{length, take, drop, getD}
 use lib.Dec.{leb, ltb, eqb}
-use Rattle.model.specs.Lists.{bit, isSome}
+use Rattle.model.specs.Lists.{bit, has, isSome}
 use Rattle.model.specs.Words.{word}
-use Rattle.model.specs.Layout.{root, tailWord, pageEntries, fileBytes, writeBytes, mostNames, sizesOk, tablePages, listWords}
+use Rattle.model.specs.Layout.{root, tailWord, fileBytes, writeBytes, mostNames, sizesOk, tablePages, listWords}
 use Rattle.model.specs.Journal.{isOpen, view}
 use Rattle.model.specs.Entry.{nameOk, padded}
 use Rattle.model.specs.Log.{tailSlots}
@@ -21,7 +21,7 @@ use Rattle.model.specs.FileMap.{recover}
 use Rattle.model.specs.Stores.{Stores}
 use Rattle.model.specs.Power.{Power, held, cut, group, leaves}
 use Rattle.model.specs.Answer.{Answer, refused, done, notThere, tooManyGaps, filledFrom}
-use Rattle.model.specs.Calls.{pagesFor, lowestRun, pagesCovered, cutsPage, cleanEntries, groups}
+use Rattle.model.specs.Calls.{pagesFor, tailPages, lowestPages, pagesCovered, cutsPage, cleanEntries, groups}
 use Rattle.model.specs.Public.{isAccepted, fills, callAnswer, formatAnswer, formatVolume, pairsOk, endsInFence, carryOut, findAnswer}
 use Rattle.model.specs.Public.{sizeAnswer}
 use Rattle.model.specs.Public.{readAnswer, readBuffer, kthNameAnswer, kthNameBuffer, freeAnswer, gapsAnswer}
@@ -94,7 +94,7 @@ mostWords (create n) = 46
 mostWords (link a b) = 24
 mostWords (unlink n) = 42
 mostWords (rename a b) = 58
-mostWords (write k o bs) = 1176
+mostWords (write k o bs) = 1306
 mostWords (setSize k s) = 168
 mostWords (clean k) = 3670
 mostWords recover = 14
@@ -173,6 +173,11 @@ abbrev pub every : List Bool → Bool
 every [] = true
 every (b ∷ bs) = b && every bs
 
+-- how many longest stretches of consecutive numbers an ascending list has: each ends where the next number does not stand in the list
+unfoldable pub stretchCount : List ℕ → ℕ
+stretchCount [] = 0
+stretchCount (p ∷ ps) = bit (not (has (p + 1) ps)) + stretchCount ps
+
 -- name n stands in the map M
 abbrev pub named : FileMap → List ℕ → Bool
 named M n = not (eqb (inodeOf (M .names) n) 0)
@@ -181,17 +186,17 @@ module _ (v : List ℕ) where
   abbrev pub freePages : ℕ
   freePages = freeCount (word v) (word v 0) (word v 1)
 
-  -- somewhere n free pages stand in a row
-  abbrev pub hasRun : ℕ → Bool
-  hasRun n = isSome (lowestRun (free (word v) (word v 0) (word v 1)) (word v 0) n)
+  -- how many write entries c data pages take: one for each longest stretch of the pages that they go to, one in all where these are a run
+  abbrev pub writesFor : ℕ → ℕ
+  writesFor c = stretchCount (lowestPages (free (word v) (word v 0) (word v 1)) (word v 0) c)
 
-  -- the last page of inode k's log has room for n more entries
-  abbrev pub hasSlots : ℕ → ℕ → Bool
-  hasSlots k n = not (eqb (word v (tailWord k)) 0) && leb (tailSlots (word v) k + n) pageEntries
+  -- how many fresh log pages n more entries of inode k take: those that the entries fill behind its tail, less the tail's page
+  abbrev pub logPagesFor : ℕ → ℕ → ℕ
+  logPagesFor k n = pagesFor (tailSlots (word v) k + n) - length (tailPages (word v) k)
 
-  -- n more entries of inode k's log and c data pages have room: the data in a row, and a page more where the log's last page is too full
+  -- n more entries of inode k's log and c data pages have room: the free pages are no fewer than the data and log pages together
   abbrev pub hasSpace : ℕ → ℕ → ℕ → Bool
-  hasSpace k n c = hasRun c && (hasSlots k n || ltb c freePages)
+  hasSpace k n c = leb (c + logPagesFor k n) freePages
 
   -- whether a page of file k is copied where its size becomes s
   abbrev pub copied : ℕ → ℕ → Bool
@@ -213,7 +218,7 @@ module _ (v : List ℕ) where
         ≡ every ((nameOk a && nameOk b) ∷ named M a ∷ (eqb (inodeOf (M .names) a) (inodeOf (M .names) b) || hasSpace root 2 0) ∷ [])
     pub writes : (k o : ℕ) (bs : List ℕ) → isServed (callAnswer v list (write k o bs))
         ≡ every (isSome (M .files k) ∷ leb (length bs) writeBytes ∷ leb (o + length bs) fileBytes
-        ∷ (eqb (length bs) 0 || hasSpace k 1 (pagesCovered o (o + length bs))) ∷ [])
+        ∷ (eqb (length bs) 0 || hasSpace k (writesFor (pagesCovered o (o + length bs))) (pagesCovered o (o + length bs))) ∷ [])
     pub sets : (k s : ℕ) → isServed (callAnswer v list (setSize k s))
         ≡ every (isSome (M .files k) ∷ leb s fileBytes
         ∷ (eqb s (length (bytesIn M k)) || hasSpace k (1 + bit (copied k s)) (bit (copied k s))) ∷ [])

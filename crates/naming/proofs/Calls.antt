@@ -120,7 +120,7 @@ module _ (v l : List ℕ) (r : Answer) (places marks : List ℕ) (g : Gated v ro
   root-ready o x ws h f k =
       let s = list-long in
       one-log-ready v marks (rootAppend o x) ws [] l closed-here refl refl some-inodes (root-valid m (m 0) (m 1) (closed-fine v marks closed-here) some-inodes) h
-      (λ z. omega arith) (omega arith) refl (omega arith)
+      (λ z. omega arith) (omega arith) refl (omega arith) (omega arith) (omega arith)
 
   -- one entry w, as the code has it, and two, put into an array of 16 words
   pub one-ready : (o x : ℕ) (w es : List ℕ) → w ≡ es → length es ≡ 8 → o < m 1 → Ready v marks (rootAppend o x) w [] l

@@ -3,9 +3,8 @@ use Rattle.model.proofs.Prelude.{ℕ, zero, suc, _+_, _-_, _/_, _≤_, _<_, _�
 use Rattle.model.specs.Lists.{allBelow, lowest, orElse}
 use Rattle.model.specs.Layout.{inPages}
 use Rattle.model.specs.Calls.{lowestRun}
-use Rattle.model.proofs.Tests.{by-bool, by-eq, clash, not-true-false, and-left}
+use Rattle.model.proofs.Tests.{by-bool, clash, not-true-false}
 use Rattle.model.proofs.Lists.{allBelow-at, lowest-is}
-use Rattle.model.proofs.Frame.Placed.{in-bounds}
 use Rattle.marks.specs.Marks.{unmarked}
 use Rattle.space.proofs.Lowest.{lowest-found, lowest-past, lowest-nowhere}
 
@@ -73,19 +72,16 @@ some-at none P r e q = absurd (q e)
 some-at (some k) P r e q = ap some (sym e)
 
 module _ (f : ℕ → Bool) (P n r : ℕ) (e : r ≡ orElse (lowestRun f P n) P) where
-  pub run-none : r ≡ P → lowestRun f P n ≡ none
+  run-none : r ≡ P → lowestRun f P n ≡ none
   unfolding lowestRun
   run-none q = none-at _ P r e (λ k h. omega (arith, lowest-is _ P 0 k h .below)) q
 
-  pub run-some : (r ≡ P → ⊥) → lowestRun f P n ≡ some r
+  run-some : (r ≡ P → ⊥) → lowestRun f P n ≡ some r
   run-some q = some-at _ P r e q
 
--- a run lies in the volume
-pub run-fits : (b : List ℕ) (P N n r : ℕ) → r ≡ orElse (lowestRun (unmarked b P N) P n) P → (r ≡ P → ⊥) → r + n ≤ P
-unfolding lowestRun unmarked
-run-fits b P N n r e q =
-    let l = lowest-is _ P 0 r (run-some (unmarked b P N) P n r e q) in
-    by-eq n 0 (λ z. omega (arith, l .below))
-    (λ z.
-    let f = allBelow-at n (n - 1) (λ i. unmarked b P N (r + i)) (l .holds) (omega arith) in
-    omega (arith, in-bounds P N (r + (n - 1)) (and-left _ _ f) .1))
+  -- `search_start`
+  pub start-none : r ≡ P → 0 ≡ orElse (lowestRun f P n) 0
+  start-none q = rw (run-none q)
+
+  pub start-run : (r ≡ P → ⊥) → r ≡ orElse (lowestRun f P n) 0
+  start-run q = rw (run-some q)

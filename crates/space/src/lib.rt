@@ -4,11 +4,11 @@ ghost use mathlib.Core.Path.{_≡_};
 ghost use mathlib.Core.Bool.{not};
 ghost use Prim.Native.Nat.{_-_, _≤_, _<_};
 ghost use lib.Dec.{ltb};
-ghost use lib.ListN.{length, set};
+ghost use lib.ListN.{length, take, set};
 ghost use Rattle.model.specs.Lists.{orElse, lowest, lowestFew};
 ghost use Rattle.model.specs.Calls.{lowestRun};
-ghost use Rattle.marks.specs.Marks.{unmarked};
-ghost use Rattle.space.specs.Space.{RunTaken};
+ghost use Rattle.marks.specs.Marks.{marked, unmarked};
+ghost use Rattle.space.specs.Space.{Found, ArePages, PagesTaken};
 use layout::Sizes;
 
 // Answers whether page p is a log or data page that is not marked.
@@ -90,6 +90,43 @@ fn lowest_run(marks: &[u8; 4096], sizes: Sizes, n: usize) -> usize
     pages
 }
 
+// Answers the page from which n pages for data are sought: the first page of the lowest run of n pages that are not marked, and page 0 where
+// there is none.
+// Example: of 16 pages, 8 inodes and marks that are all 0 but that of page 4, search_start(marks, sizes, 3) is 5, and
+// search_start(marks, sizes, 12) is 0.
+fn search_start(marks: &[u8; 4096], sizes: Sizes, n: usize) -> usize
+    requires { ⌜ sizes .pages ≤ 4096 ⌝ }
+    ensures { λ r. ⌜ r ≡ orElse (lowestRun (unmarked (now (marks .entry)) (sizes .pages) (sizes .inodes)) (sizes .pages) n) 0 ⌝ }
+{
+    let start = lowest_run(marks, sizes, n);
+    if start == sizes.pages {
+        return 0;
+    }
+    start
+}
+
+// Finds n pages that are not marked, the lowest from page from on, and puts them into `pages`. Answers whether there are so many.
+// Example: where pages 5, 6 and 8 alone are not marked, find_pages(marks, sizes, 0, 3, pages) is true and makes the first elements 5, 6 and
+// 8, and find_pages(marks, sizes, 6, 3, pages) is false.
+fn find_pages(marks: &[u8; 4096], sizes: Sizes, from: usize, n: usize, pages: &mut [u64]) -> bool
+    requires { ⌜ (sizes .pages ≤ 4096) × (n ≤ length (now pages)) ⌝ }
+    ensures { λ r. ⌜ Found (unmarked (now (marks .entry)) (sizes .pages) (sizes .inodes)) (sizes .pages) from n (now (pages .entry)) r
+        (now (pages .exit)) ⌝ }
+{
+    let mut next = from;
+    let mut i: usize = 0;
+    while i < n {
+        let p = next_free(marks, sizes, next);
+        if p == sizes.pages {
+            return false;
+        }
+        pages[i] = p as u64;
+        next = p + 1;
+        i = i + 1;
+    }
+    true
+}
+
 // Marks page p. Answers nothing.
 // Example: mark(marks, 5) makes byte 5 a 1.
 fn mark(marks: &mut [u8; 4096], p: usize)
@@ -99,23 +136,33 @@ fn mark(marks: &mut [u8; 4096], p: usize)
     marks[p] = 1;
 }
 
-// Takes the lowest run of n pages that are not marked: marks them, and answers the first of them, or the page count where there is no
-// such run.
-// Example: of 16 pages, 8 inodes and marks that are all 0 but that of page 4, take_run(marks, sizes, 3) is 5, and marks pages 5, 6 and 7.
-pub fn take_run(marks: &mut [u8; 4096], sizes: Sizes, n: usize) -> usize
-    requires { ⌜ (sizes .pages ≤ 4096) × (length (now marks) ≡ 4096) ⌝ }
-    ensures { λ r. ⌜ RunTaken (now (marks .entry)) (sizes .pages) (sizes .inodes) n r (now (marks .exit)) ⌝ }
+// Marks the first n pages of `pages`. Answers nothing.
+// Example: where the first elements of pages are 5 and 8, mark_pages(marks, pages, 2) makes bytes 5 and 8 a 1.
+fn mark_pages(marks: &mut [u8; 4096], pages: &[u64], n: usize)
+    requires { ⌜ (n ≤ length (now pages)) × ArePages n (now pages) ⌝ }
+    ensures { λ _. ⌜ now (marks .exit) ≡ marked (now (marks .entry)) (take n (now (pages .entry))) ⌝ }
 {
-    let start = lowest_run(marks, sizes, n);
-    if start == sizes.pages {
-        return start;
+    let mut i: usize = 0;
+    while i < n {
+        let p = pages[i];
+        mark(marks, p as usize);
+        i = i + 1;
     }
-    let mut p = start;
-    let mut left = n;
-    while 0 < left {
-        mark(marks, p);
-        p = p + 1;
-        left = left - 1;
+}
+
+// Takes n pages for data, the lowest run of n pages that are not marked or, where there is none, the lowest n pages that are not: marks them
+// and puts them into `pages`, ascending. Answers whether there are so many.
+// Example: where pages 5, 6, 8 and 9 alone are not marked, take_pages(marks, sizes, 2, pages) takes 5 and 6, and
+// take_pages(marks, sizes, 3, pages) 5, 6 and 8; take_pages(marks, sizes, 5, pages) is false.
+pub fn take_pages(marks: &mut [u8; 4096], sizes: Sizes, n: usize, pages: &mut [u64]) -> bool
+    requires { ⌜ (sizes .pages ≤ 4096) × (length (now marks) ≡ 4096) × (n ≤ length (now pages)) ⌝ }
+    ensures { λ r. ⌜ PagesTaken (now (marks .entry)) (sizes .pages) (sizes .inodes) n (now (pages .entry)) r (now (pages .exit))
+        (now (marks .exit)) ⌝ }
+{
+    let from = search_start(marks, sizes, n);
+    if !find_pages(marks, sizes, from, n, pages) {
+        return false;
     }
-    start
+    mark_pages(marks, pages, n);
+    true
 }

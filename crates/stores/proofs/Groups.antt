@@ -1,10 +1,9 @@
--- A store added to a group: where the group has the word already nothing changes, else its pair stands between those of lower and those of
--- higher words. Then laws for callers: stores that are added one after the other.
-use Rattle.model.proofs.Prelude.{ℕ, suc, _+_, _*_, _-_, _/_, _≤_, _<_, _≡_, refl, sym, ap, _∙_, fun-ext, Bool, true, false, _&&_, List, _∷_, _++_, Option, none, some, arith, zero-add, add-zero, sub-zero, ltb, eqb, length, getD, length-append, List·getD-append, sets, getD-append-add, lt-ltb, ltb-true, eq-eqb, eqb-true}
-use Rattle.model.proofs.Lists.{length-values}
+-- Stores added to a group: the pairs of words that it does not have stand between those of lower and those of higher words, and a word that
+-- it has already changes nothing. Then laws for callers: stores that are added one after the other.
+use Rattle.model.proofs.Prelude.{ℕ, suc, _+_, _*_, _-_, _/_, _≤_, _<_, _≡_, refl, sym, ap, _∙_, fun-ext, Bool, true, false, _&&_, List, [], _∷_, _++_, Option, none, some, arith, zero-add, sub-zero, ltb, eqb, length, getD, take, drop, length-append, length-drop, length-take-le, getD-take, getD-drop, List·getD-append, sets, getD-append-add, lt-ltb, ltb-true, eq-eqb, eqb-true}
 use Rattle.model.specs.Stores.{Stores, oneWord, run, firstOf, both, onlyIf, listed}
 use Rattle.model.proofs.Crash.Stores.{one-here, one-other, first-none, Only}
-use Rattle.model.proofs.Tests.{by-eq, by-range, inside, outside, and-left, and-right, clash}
+use Rattle.model.proofs.Tests.{by-eq, by-range, and-left, and-right, clash}
 use Rattle.stores.specs.Emitted.{Emitted}
 use Rattle.stores.proofs.Emitting.{same-length, sets-append}
 use Rattle.stores.proofs.Listed.{listed-both, listed-same, listed-none}
@@ -19,41 +18,60 @@ lower s i = listed s i 0
 abbrev pub upper : Stores → ℕ → ℕ → List ℕ
 upper s i W = listed s (W - i) i
 
-pub in-two : (s : Stores) (i W : ℕ) → i < W → listed s W 0 ≡ lower s i ++ upper s i W
-in-two s i W h =
-    let e : i + (W - i) ≡ W = omega arith in
-    ap (λ k. listed s k 0) (sym e) ∙ listed-both s i (W - i) 0 ∙ rw zero-add
+upper-two : (s : Stores) (i n W : ℕ) → i + n ≤ W → upper s i W ≡ listed s n i ++ upper s (i + n) W
+upper-two s i n W h =
+    let e : n + (W - (i + n)) ≡ W - i = omega arith in
+    ap (λ k. listed s k i) (sym e) ∙ listed-both s n (W - (i + n)) i
 
-module _ (s : Stores) (i x W : ℕ) (h : i < W) where
-  -- the word is not stored
-  module _ (e : s i ≡ none) where
-    upper-none : upper s i W ≡ listed s (W - (i + 1)) (i + 1)
-    unfolding listed
-    upper-none = let k : W - i ≡ suc (W - (i + 1)) = omega arith in rw (k, e)
+in-two : (s : Stores) (i W : ℕ) → i ≤ W → listed s W 0 ≡ lower s i ++ upper s i W
+in-two s i W h = rw (sub-zero, zero-add) at (upper-two s 0 i W (omega arith))
 
-    text-new : listed (both s (oneWord i x)) W 0 ≡ lower s i ++ (i ∷ x ∷ upper s i W)
-    unfolding listed both
-    text-new =
-        let k : W - i ≡ suc (W - (i + 1)) = omega arith in
-        let t = both s (oneWord i x) in
-        let a : lower t i ≡ lower s i = listed-same t s i 0 (λ j p q. rw (one-other i x j (λ f. omega arith)) (first-none (s j))) in
-        let b : listed t (W - (i + 1)) (i + 1) ≡ listed s (W - (i + 1)) (i + 1)
-        = listed-same t s (W - (i + 1)) (i + 1) (λ j p q. rw (one-other i x j (λ f. omega arith)) (first-none (s j))) in
-        in-two t i W h ∙ rw (upper-none, k, e, one-here i x, a, b)
+-- none of n words from i on is stored
+module _ (s : Stores) (i n W : ℕ) (h : i + n ≤ W) (e : (j : ℕ) → i ≤ j → j < i + n → s j ≡ none) where
+  upper-none : upper s i W ≡ upper s (i + n) W
+  upper-none = upper-two s i n W h ∙ rw (listed-none s n i e)
 
-  -- the word is stored
-  module _ (y : ℕ) (e : s i ≡ some y) where
-    pub upper-some : upper s i W ≡ i ∷ y ∷ listed s (W - (i + 1)) (i + 1)
-    unfolding listed
-    upper-some = let k : W - i ≡ suc (W - (i + 1)) = omega arith in rw (k, e)
+  -- t stores none but them
+  text-new : (t : Stores) → ((j : ℕ) → (i ≤ j → j < i + n → ⊥) → t j ≡ none)
+      → listed (both s t) W 0 ≡ lower s i ++ (listed t n i ++ upper s i W)
+  unfolding both
+  text-new t f =
+      let u = both s t in
+      let a : lower u i ≡ lower s i = listed-same u s i 0 (λ j p q. rw (f j (λ c d. omega arith)) (first-none (s j))) in
+      let b : listed u n i ≡ listed t n i = listed-same u t n i (λ j p q. rw (e j p q)) in
+      let c : upper u (i + n) W ≡ upper s (i + n) W
+      = listed-same u s (W - (i + n)) (i + n) (λ j p q. rw (f j (λ c d. omega arith)) (first-none (s j))) in
+      in-two u i W (omega arith) ∙ rw (upper-two u i n W h, a, b, c, upper-none)
 
-    both-old : both s (oneWord i x) ≡ s
-    unfolding both
-    both-old = fun-ext (λ w. by-eq w i (λ f. rw (f, e)) (λ f. rw (one-other i x w f) (first-none (s w))))
+-- word i is not stored
+only-here : (s : Stores) (i : ℕ) → s i ≡ none → (j : ℕ) → i ≤ j → j < i + 1 → s j ≡ none
+only-here s i e j p q = let f : j ≡ i = omega arith in rw f e
+
+-- the text of word i
+text-one : (i x : ℕ) → listed (oneWord i x) 1 i ≡ i ∷ x ∷ []
+unfolding listed
+text-one i x = rw (one-here i x)
+
+-- word i is stored
+module _ (s : Stores) (i x W : ℕ) (h : i < W) (y : ℕ) (e : s i ≡ some y) where
+  upper-some : upper s i W ≡ i ∷ y ∷ listed s (W - (i + 1)) (i + 1)
+  unfolding listed
+  upper-some = let k : W - i ≡ suc (W - (i + 1)) = omega arith in rw (k, e)
+
+  both-old : both s (oneWord i x) ≡ s
+  unfolding both
+  both-old = fun-ext (λ w. by-eq w i (λ f. rw (f, e)) (λ f. rw (one-other i x w f) (first-none (s w))))
+
+-- The count of pairs in two parts.
+pub pairs-both : (s : Stores) (a b w : ℕ) → pairs s (a + b) w ≡ pairs s a w + pairs s b (w + a)
+pairs-both s a b w =
+    let e : length (listed s (a + b) w) ≡ length (listed s a w ++ listed s b (w + a)) = ap length (listed-both s a b w) in
+    let f = length-append (listed s a w) (listed s b (w + a)) in
+    omega (arith, length-listed s (a + b) w, length-listed s a w, length-listed s b (w + a))
 
 -- The group s in the list.
 
-module _ (l l₀ : List ℕ) (from end i W : ℕ) (s : Stores) (g : Group l₀ from s W end l) (h : i < W) (room : end ≤ length l) where
+module _ (l l₀ : List ℕ) (from end i W : ℕ) (s : Stores) (g : Group l₀ from s W end l) (h : i ≤ W) (room : end ≤ length l) where
   abbrev c : ℕ
   c = pairs s i 0
 
@@ -84,31 +102,51 @@ module _ (l l₀ : List ℕ) (from end i W : ℕ) (s : Stores) (g : Group l₀ f
       let e : from + 2 * c + j ≡ from + (length (lower s i) + j) = omega arith in
       rw (e, read (length (lower s i) + j) (omega arith)) (getD-append-add (lower s i) (upper s i W) j 0)
 
-  pub place-at : placeOf l from (c + d) i ≡ c
-  place-at =
-      place-is l from i (c + d) c (omega arith) read-low
-      (λ k p q.
+  -- the place among n pairs, those of all lower words with them
+  pub place-at : (n : ℕ) → c ≤ n → n ≤ c + d → placeOf l from n i ≡ c
+  place-at n p o =
+      place-is l from i n c p read-low
+      (λ k a b.
       let e : from + 2 * k ≡ from + 2 * c + 2 * (k - c) = omega arith in
-      let a = index-in s (W - i) i (k - c) (omega arith) in
-      rw (e, read-up (2 * (k - c)) (omega arith)) (a .0))
+      let f = index-in s (W - i) i (k - c) (omega arith) in
+      rw (e, read-up (2 * (k - c)) (omega arith)) (f .0))
 
   pub part-upper : part l (from + 2 * c) (2 * d) ≡ upper s i W
   part-upper =
       let a = length-listed s (W - i) i in
       rw (← a) (part-is (upper s i W) l (from + 2 * c) (λ j q. read-up j (omega arith)))
 
+  -- t stores words from i to i + n alone, of which the group has none: its pairs are put behind those of lower words
+  pub grown-by : (t : Stores) (n : ℕ) → i + n ≤ W → ((j : ℕ) → i ≤ j → j < i + n → s j ≡ none) → ((j : ℕ) → (i ≤ j → j < i + n → ⊥) → t j ≡ none)
+      → (r : ℕ) (m : List ℕ) → Emitted l (from + 2 * c) (listed t n i ++ part l (from + 2 * c) (2 * d)) r m → Group l₀ from (both s t) W r m
+  grown-by t n o e f r m p =
+      let p₁ = rw part-upper at p in
+      let a = text-new s i n W o e t f in
+      let new = listed t n i ++ upper s i W in
+      let b = length-append (lower s i) new in
+      let b₁ = length-append (listed t n i) (upper s i W) in
+      let o₁ = length-listed s i 0 in
+      let k : from + 2 * c ≡ from + length (lower s i) = omega arith in
+      record {
+        end = rw a (omega (arith, p₁ .end));
+        list = p₁ .list
+            ∙ rw (k, a, g .list, in-two s i W h, sets-append (lower s i) (upper s i W) l₀ from, sets-append (lower s i) new l₀ from)
+            (sets-over (upper s i W) new (sets l₀ from (lower s i)) (from + length (lower s i)) (omega arith));
+      }
+
   -- n, k and `at` are those of `put`
-  module _ (n k : ℕ) (en : n ≡ (end - from) / 2) (ek : k ≡ placeOf l from n i) where
-    pub n-is : n ≡ c + d
+  module _ (n k : ℕ) (en : n ≡ (end - from) / 2) (ek : k ≡ placeOf l from n i) (less : i < W) where
+    n-is : n ≡ c + d
     n-is = omega (arith, ends)
 
-    pub k-is : k ≡ c
-    k-is = ek ∙ (rw n-is place-at)
+    k-is : k ≡ c
+    k-is = ek ∙ place-at n (omega (arith, n-is)) (omega (arith, n-is))
 
     there-not-none : ltb (from + 2 * k) (from + 2 * n) && eqb (getD l (from + 2 * k) 0) i ≡ true → s i ≡ none → ⊥
     there-not-none t e =
         let a : from + 2 * k < from + 2 * n = ltb-true _ _ (and-left (ltb (from + 2 * k) (from + 2 * n)) (eqb (getD l (from + 2 * k) 0) i) t) in
         let b : getD l (from + 2 * k) 0 ≡ i = eqb-true _ _ (and-right (ltb (from + 2 * k) (from + 2 * n)) (eqb (getD l (from + 2 * k) 0) i) t) in
+        let none-here = upper-none s i 1 W (omega arith) (only-here s i e) in
         let f = index-in s (W - (i + 1)) (i + 1) 0 in
         let u : from + 2 * k ≡ from + 2 * c + 0 = omega (arith, k-is) in
         let v : 0 < d = omega (arith, n-is, k-is) in
@@ -116,18 +154,18 @@ module _ (l l₀ : List ℕ) (from end i W : ℕ) (s : Stores) (g : Group l₀ f
         let b₁ : getD (upper s i W) 0 0 ≡ i = sym r ∙ (rw (← u) b) in
         let p₁ = length-listed s (W - i) i in
         let p₂ = length-listed s (W - (i + 1)) (i + 1) in
-        let p₃ : length (upper s i W) ≡ length (listed s (W - (i + 1)) (i + 1)) = ap length (upper-none s i 0 W h e) in
-        let b₂ : getD (listed s (W - (i + 1)) (i + 1)) 0 0 ≡ i = rw (upper-none s i 0 W h e) at b₁ in
+        let p₃ : length (upper s i W) ≡ length (upper s (i + 1) W) = ap length none-here in
+        let b₂ : getD (upper s (i + 1) W) 0 0 ≡ i = rw none-here at b₁ in
         let z = f (omega arith) in
         omega arith
 
     not-there : (y : ℕ) → s i ≡ some y → ltb (from + 2 * k) (from + 2 * n) && eqb (getD l (from + 2 * k) 0) i ≡ true
     not-there y e =
         let p₁ = length-listed s (W - i) i in
-        let p₂ = ap length (upper-some s i 0 W h y e) in
+        let p₂ = ap length (upper-some s i 0 W less y e) in
         let v : 0 < d = omega arith in
         let u : from + 2 * k ≡ from + 2 * c + 0 = omega (arith, k-is) in
-        let r : getD l (from + 2 * k) 0 ≡ i = rw (u, read-up 0 (omega arith), upper-some s i 0 W h y e) in
+        let r : getD l (from + 2 * k) 0 ≡ i = rw (u, read-up 0 (omega arith), upper-some s i 0 W less y e) in
         rw (lt-ltb (from + 2 * k) (from + 2 * n) (omega (arith, k-is, n-is)), eq-eqb (getD l (from + 2 * k) 0) i r)
 
     module _ (x : ℕ) where
@@ -135,7 +173,7 @@ module _ (l l₀ : List ℕ) (from end i W : ℕ) (s : Stores) (g : Group l₀ f
       kept : (o : Option ℕ) → s i ≡ o → ltb (from + 2 * k) (from + 2 * n) && eqb (getD l (from + 2 * k) 0) i ≡ true
           → Group l₀ from (both s (oneWord i x)) W end l
       kept none e t = absurd (there-not-none t e)
-      kept (some y) e t = rw (both-old s i x W h y e) g
+      kept (some y) e t = rw (both-old s i x W less y e) g
 
       inserted : (o : Option ℕ) → s i ≡ o → ltb (from + 2 * k) (from + 2 * n) && eqb (getD l (from + 2 * k) 0) i ≡ false
           → (r : ℕ) (m : List ℕ) → Emitted l (from + 2 * k) (i ∷ x ∷ part l (from + 2 * k) (2 * (n - k))) r m
@@ -143,24 +181,9 @@ module _ (l l₀ : List ℕ) (from end i W : ℕ) (s : Stores) (g : Group l₀ f
       inserted (some y) e t r m p = clash _ (not-there y e) t
       inserted none e t r m p =
           let u : n - k ≡ d = omega (arith, n-is, k-is) in
-          let p₁ = rw (u, k-is, part-upper) at p in
-          let a = text-new s i x W h e in
-          let b = length-append (lower s i) (i ∷ x ∷ upper s i W) in
-          let o₁ = length-listed s i 0 in
-          let f : from + 2 * c ≡ from + length (lower s i) = omega arith in
-          record {
-            end = rw a (omega (arith, p₁ .end));
-            list = p₁ .list
-                ∙ rw (
-                  f,
-                  a,
-                  g .list,
-                  in-two s i W h,
-                  sets-append (lower s i) (upper s i W) l₀ from,
-                  sets-append (lower s i) (i ∷ x ∷ upper s i W) l₀ from,
-                )
-                (sets-over (upper s i W) (i ∷ x ∷ upper s i W) (sets l₀ from (lower s i)) (from + length (lower s i)) (omega arith));
-          }
+          let one = text-one i x in
+          grown-by (oneWord i x) 1 (omega arith) (only-here s i e) (λ j f. one-other i x j (λ q. f (omega arith) (omega arith))) r m
+          (rw one (rw (u, k-is) at p))
 
 -- `put`.
 
@@ -170,27 +193,16 @@ module _ (l : List ℕ) (from end i x n k : ℕ) (t : Bool) (below : from ≤ en
   put-there f =
       record {
         long = refl;
-        grown = λ l₀ s W g o. kept l l₀ from end i W s g (o i x (one-here i x)) (omega arith) n k en ek x (s i) refl (sym et ∙ f);
+        grown = λ l₀ s W g o. let a = o i x (one-here i x) in kept l l₀ from end i W s g (omega arith) (omega arith) n k en ek a x (s i) refl (sym et ∙ f);
       }
 
-  module _ (r : ℕ) (m : List ℕ) (p : Emitted l (from + 2 * k) (i ∷ x ∷ part l (from + 2 * k) (2 * (n - k))) r m) where
-    pub put-new : t ≡ false → Added l from end (oneWord i x) r m
-    put-new f =
-        record {
-          long = same-length p;
-          grown = λ l₀ s W g o. inserted l l₀ from end i W s g (o i x (one-here i x)) (omega arith) n k en ek x (s i) refl (sym et ∙ f) r m p;
-        }
-
-    pub put-end : k ≤ n → (from ≤ r) × (r ≤ end + 2)
-    put-end h =
-        let a : r ≡ from + 2 * k + suc (suc (2 * (n - k))) = p .end ∙ ap (λ (q : ℕ). from + 2 * k + suc (suc q)) (length-values (λ j. getD l j 0) (from + 2 * k) (2 * (n - k))) in
-        (omega arith, omega arith)
-
-    pub put-from : k ≤ n → from ≤ r
-    put-from h = put-end h .0
-
-    pub put-to : k ≤ n → r ≤ end + 2
-    put-to h = put-end h .1
+  pub put-new : (r : ℕ) (m : List ℕ) → Emitted l (from + 2 * k) (i ∷ x ∷ part l (from + 2 * k) (2 * (n - k))) r m → t ≡ false
+      → Added l from end (oneWord i x) r m
+  put-new r m p f =
+      record {
+        long = same-length p;
+        grown = λ l₀ s W g o. let a = o i x (one-here i x) in inserted l l₀ from end i W s g (omega arith) (omega arith) n k en ek a x (s i) refl (sym et ∙ f) r m p;
+      }
 
 -- For callers.
 
@@ -267,47 +279,14 @@ pub adding-then : {l : List ℕ} {from end : ℕ} {t : Stores} {m : List ℕ} {e
     → Adding m from e u p r v → Adding l from end t p r v
 adding-then q a = record { long = a .long ∙ q .long; rest = λ b. q .rest (a .rest b) }
 
-pub run-none : (i n : ℕ) (f : ℕ → ℕ) → n ≤ 0 → run i n f ≡ (λ w. none)
+pub run-same : (w n : ℕ) (f g : ℕ → ℕ) → ((j : ℕ) → j < n → f j ≡ g j) → run w n f ≡ run w n g
 unfolding run
-run-none i n f h = fun-ext (λ w. by-range i (i + n) w (λ e p q. absurd (omega arith)) (λ e p. rw e))
+run-same w n f g h = fun-ext (λ i. by-range w (w + n) i (λ e p q. rw (e, h (i - w) (omega arith))) (λ e p. rw e))
 
-run-more : (i n : ℕ) (f g : ℕ → ℕ) → 0 < n → ((j : ℕ) → f (j + 1) ≡ g j) → run i n f ≡ both (oneWord i (f 0)) (run (i + 1) (n - 1) g)
-unfolding run both
-run-more i n f g h e =
-    fun-ext (λ w.
-    by-eq w i
-    (λ q. let z : w - i ≡ 0 = omega arith in rw (inside i (i + n) w (omega arith) (omega arith), z, q, one-here i (f 0)))
-    (λ q. rw (one-other i (f 0) w q)
-    (by-range (i + 1) (i + 1 + (n - 1)) w
-    (λ r a b. let z : w - i ≡ w - (i + 1) + 1 = omega arith in rw (r, inside i (i + n) w (omega arith) (omega arith), z, e))
-    (λ r a. rw (r, outside i (i + n) w (λ c d. a (omega arith) (omega arith)))))))
-
--- n words from w on, those of src
-module _ (l : List ℕ) (end w : ℕ) (src : List ℕ) where
-  abbrev n : ℕ
-  n = length src
-
-  -- those from word i of src on
-  abbrev wordsFrom : ℕ → Stores
-  wordsFrom i = run (w + i) (n - i) (elementFrom src i)
-
-  pub words-start : Adding l 0 end (run w n (element src)) l end (wordsFrom 0)
-  unfolding element elementFrom
-  words-start =
-      let e : elementFrom src 0 ≡ element src = fun-ext (λ j. rw (zero-add j)) in
-      rw (add-zero w, sub-zero n, e) (adding-all l 0 end (run w n (element src)))
-
-  module _ (m : List ℕ) (e i : ℕ) (q : Adding l 0 end (run w n (element src)) m e (wordsFrom i)) where
-    pub words-next : (r : ℕ) (p : List ℕ) → i < n → Added m 0 e (oneWord (w + i) (getD src i 0)) r p
-        → Adding l 0 end (run w n (element src)) p r (wordsFrom (i + 1))
-    unfolding elementFrom
-    words-next r p h b =
-        let k : elementFrom src i 0 ≡ getD src i 0 = rw add-zero in
-        let d = run-more (w + i) (n - i) (elementFrom src i) (elementFrom src (i + 1)) (omega arith)
-        (λ j. let z : i + (j + 1) ≡ i + 1 + j = omega arith in rw z) in
-        let y : w + i + 1 ≡ w + (i + 1) = omega arith in
-        let z : n - i - 1 ≡ n - (i + 1) = omega arith in
-        rw (← y, ← z) (adding-next (rw (d, k) at q) b)
-
-    pub words-done : n ≤ i → Added l 0 end (run w n (element src)) e m
-    words-done h = q .rest (rw (run-none (w + i) (n - i) (elementFrom src i) (omega arith)) (added-none m 0 e))
+-- n words of src from element a on, as the code takes them
+pub slice-run : (src : List ℕ) (a n w : ℕ) → a + n ≤ length src
+    → run w (length (take n (drop a src))) (element (take n (drop a src))) ≡ run w n (elementFrom src a)
+unfolding element elementFrom
+slice-run src a n w room =
+    rw (length-take-le n (drop a src) (rw length-drop (omega arith)))
+    (run-same w n (λ j. getD (take n (drop a src)) j 0) (λ j. getD src (a + j) 0) (λ j h. getD-take n (drop a src) j 0 h ∙ getD-drop a src j 0))

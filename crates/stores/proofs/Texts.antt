@@ -1,14 +1,14 @@
 -- Laws of lists that words are put into, and of the pairs of a group's text.
-use Rattle.model.proofs.Prelude.{ℕ, zero, suc, _+_, _*_, _-_, _≤_, _<_, _≡_, refl, ap, _∙_, false, _&&_, List, [], _∷_, _++_, append-assoc, Option, none, some, arith, add-zero, ltb, eqb, length, getD, set, take, drop, List·getD-append, sets, sets-eq, set-comm, set-set, getD-set-other, getD-append-add, length-take-le, lt-ltb, le-ltb}
+use Rattle.model.proofs.Prelude.{ℕ, zero, suc, _+_, _*_, _-_, _≤_, _<_, _≡_, refl, sym, ap, _∙_, false, _&&_, List, [], _∷_, _++_, append-assoc, Option, none, some, arith, add-zero, zero-add, ltb, eqb, length, length-append, getD, set, take, drop, List·getD-append, sets, sets-eq, set-comm, set-set, getD-set-other, getD-append-add, length-take-le, lt-ltb, le-ltb}
 use Rattle.model.specs.Lists.{valuesFrom}
 use Rattle.model.specs.Stores.{Stores, pairOf, listed}
 use Rattle.model.proofs.Tests.{by-eq}
 use Rattle.stores.specs.Emitted.{Emitted}
-use Rattle.stores.proofs.Emitting.{same-length}
+use Rattle.stores.proofs.Emitting.{same-length, sets-append}
 use Rattle.model.proofs.Lists.{length-values}
 use Rattle.stores.specs.Added.{part, placeOf}
 
--- Words that are put over others.
+-- Words that are put over others, and below others.
 
 set-below : (ys l : List ℕ) (b z c : ℕ) → b < c → set (sets l c ys) b z ≡ sets (set l b z) c ys
 set-below [] l b z c h = refl
@@ -21,6 +21,25 @@ sets-over (y ∷ ys) [] l b h = absurd (omega arith)
 sets-over (y ∷ ys) (z ∷ zs) l b h =
     rw (set-below ys (set l b y) b z (suc b) (omega arith), set-set l b y z) (sets-over ys zs (set l b z) (suc b) (omega arith))
 
+sets-below : (xs ys l : List ℕ) (a b : ℕ) → a + length xs ≤ b → sets (sets l b ys) a xs ≡ sets (sets l a xs) b ys
+sets-below [] ys l a b h = refl
+sets-below (x ∷ xs) ys l a b h = rw (set-below ys l a x b (omega arith)) (sets-below xs ys (set l a x) (suc a) b (omega arith))
+
+-- words that are put, and others then before them
+pub emitted-before : {l : List ℕ} {b : ℕ} {ys : List ℕ} {r : ℕ} {m : List ℕ} {a : ℕ} {xs : List ℕ} {c : ℕ} {p : List ℕ}
+    → Emitted l b ys r m → Emitted m a xs c p → c ≡ b → Emitted l a (xs ++ ys) r p
+emitted-before {l} {b} {ys} {r} {m} {a} {xs} e f k =
+    let z : a + length xs ≡ b = sym (f .end) ∙ k in
+    record {
+      end = rw length-append (omega (arith, e .end));
+      list = f .list ∙ rw (e .list, sets-below xs ys l a b (omega arith), sets-append xs ys l a, z);
+    }
+
+-- a pair before them
+pub pair-before : {l : List ℕ} {a : ℕ} {ys : List ℕ} {r : ℕ} {m : List ℕ} {x y c : ℕ} {p : List ℕ}
+    → Emitted l (a + 2 * 1) ys r m → Emitted m a (x ∷ y ∷ []) c p → Emitted l a (x ∷ y ∷ ys) r p
+pair-before e f = emitted-before e f (f .end)
+
 pub getD-sets : (vs l : List ℕ) (i j : ℕ) → i + length vs ≤ length l → j < length vs → getD (sets l i vs) (i + j) 0 ≡ getD vs j 0
 getD-sets vs l i j h g =
     let e : length (take i l) ≡ i = length-take-le i l (omega arith) in
@@ -30,10 +49,18 @@ getD-sets vs l i j h g =
 
 -- Parts of a list.
 
-pub part-set : (n : ℕ) (l : List ℕ) (k i x : ℕ) → i < k → part (set l i x) k n ≡ part l k n
+part-set : (n : ℕ) (l : List ℕ) (k i x : ℕ) → k + n ≤ i → part (set l i x) k n ≡ part l k n
 unfolding valuesFrom
 part-set zero l k i x h = refl
 part-set (suc n) l k i x h = rw (getD-set-other l i k x 0 (λ e. omega arith), part-set n l (k + 1) i x (omega arith))
+
+part-both : (a b : ℕ) (l : List ℕ) (k : ℕ) → part l k (a + b) ≡ part l k a ++ part l (k + a) b
+unfolding valuesFrom
+part-both zero b l k = rw (zero-add, add-zero)
+part-both (suc a) b l k =
+    let e : suc a + b ≡ suc (a + b) = omega arith in
+    let f : k + suc a ≡ k + 1 + a = omega arith in
+    rw (e, f, part-both a b l (k + 1))
 
 pub part-is : (xs l : List ℕ) (a : ℕ) → ((j : ℕ) → j < length xs → getD l (a + j) 0 ≡ getD xs j 0) → part l a (length xs) ≡ xs
 unfolding valuesFrom
@@ -60,6 +87,18 @@ pub length-listed : (s : Stores) (n w : ℕ) → length (listed s n w) ≡ 2 * p
 unfolding listed pairs
 length-listed s zero w = refl
 length-listed s (suc n) w = length-pair w (s w) (listed s n (w + 1)) (pairs s n (w + 1)) (length-listed s n (w + 1))
+
+none-pair : (o : Option ℕ) (c : ℕ) → pairCount o c ≡ 0 → (o ≡ none) × (c ≡ 0)
+none-pair none c e = (refl, e)
+none-pair (some x) c e = absurd (omega arith)
+
+-- a range without pairs has no stores
+pub none-listed : (s : Stores) (n w j : ℕ) → pairs s n w ≡ 0 → w ≤ j → j < w + n → s j ≡ none
+unfolding pairs
+none-listed s zero w j e g h = absurd (omega arith)
+none-listed s (suc n) w j e g h =
+    let a = none-pair (s w) (pairs s n (w + 1)) e in
+    by-eq j w (λ q. rw q (a .0)) (λ q. none-listed s n (w + 1) j (a .1) (omega arith) (omega arith))
 
 index-pair : (Q : ℕ → Type 0) (w : ℕ) (o : Option ℕ) (r : List ℕ) (c k : ℕ) → Q w → ((j : ℕ) → j < c → Q (getD r (2 * j) 0)) → k < pairCount o c
     → Q (getD (pairOf w o r) (2 * k) 0)
@@ -115,39 +154,35 @@ has-none l at end i h = rw (le-ltb at end h)
 pub has-there : (l : List ℕ) (at end i x : ℕ) → at < end → x ≡ getD l at 0 → eqb x i ≡ ltb at end && eqb (getD l at 0) i
 has-there l at end i x h e = rw (lt-ltb at end h, e)
 
--- `insert`: of n pairs at index `at` of the list l, which are to stand behind the pair j, y, left pairs are still to move, those from
--- index a on, and the pair i, x is to be put there; the list is m by now.
-pub record Moving (l : List ℕ) (at n j y : ℕ) (m : List ℕ) (a left i x : ℕ) : Type 0 where
-  pub ends : a + 2 * left ≡ at + 2 * n
+-- `move_up`: of n pairs at index `at` of the list l, which are to stand from index `to` on, the first `left` are still to move; the list
+-- is m by now.
+pub record Moving (l : List ℕ) (at n to : ℕ) (m : List ℕ) (left : ℕ) : Type 0 where
   pub long : length m ≡ length l
-  pub list : sets m a (i ∷ x ∷ part m a (2 * left)) ≡ sets l at (j ∷ y ∷ part l at (2 * n))
+  pub list : sets m to (part m at (2 * left)) ≡ sets l to (part l at (2 * n))
 
-pub insert-start : (l : List ℕ) (at n j y : ℕ) → Moving l at n j y l at n j y
-insert-start l at n j y = record { ends = refl; long = refl; list = refl }
+pub move-start : (l : List ℕ) (at n to : ℕ) → Moving l at n to l n
+move-start l at n to = record { long = refl; list = refl }
 
-module _ (l : List ℕ) (at n j y : ℕ) (m : List ℕ) (a left i x : ℕ) (q : Moving l at n j y m a left i x) where
-  pub insert-turn : (p : List ℕ) (b z t : ℕ) → 0 < left → z ≡ getD m a 0 → t ≡ getD m (a + 1) 0 → Emitted m a (i ∷ x ∷ []) b p
-      → Moving l at n j y p b (left - 1) z t
+module _ (l : List ℕ) (at n to : ℕ) (m : List ℕ) (left : ℕ) (q : Moving l at n to m left) where
+  pub move-turn : (x y b : ℕ) (p : List ℕ) → 0 < left → at ≤ to → x ≡ getD m (at + 2 * (left - 1)) 0 → y ≡ getD m (at + 2 * (left - 1) + 1) 0
+      → Emitted m (to + 2 * (left - 1)) (x ∷ y ∷ []) b p → Moving l at n to p (left - 1)
   unfolding valuesFrom
-  insert-turn p b z t h e f g =
+  move-turn x y b p h g e f o =
       let c = left - 1 in
-      let k : 2 * left ≡ suc (suc (2 * c)) = omega arith in
-      let b₁ : b ≡ suc (suc a) = g .end ∙ (omega arith) in
-      let a₁ : a + 1 + 1 ≡ suc (suc a) = omega arith in
-      let u : part p b (2 * c) ≡ part m b (2 * c)
-      = rw (g .list) (part-set (2 * c) (set m a i) b (suc a) x (omega arith) ∙ part-set (2 * c) m b a i (omega arith)) in
-      let q₁ = rw (k, a₁, ← e, ← f, ← b₁) at (q .list) in
-      record {
-        ends = omega (arith, q .ends);
-        long = same-length g ∙ q .long;
-        list = rw u (ap (λ o. sets o b (z ∷ t ∷ part m b (2 * c))) (g .list) ∙ (rw b₁ (rw b₁ at q₁)));
-      }
+      let k : 2 * left ≡ 2 * c + 2 = omega arith in
+      let a = to + 2 * c in
+      let u : part p at (2 * c) ≡ part m at (2 * c)
+      = rw (o .list) (part-set (2 * c) (set m a x) at (suc a) y (omega arith) ∙ part-set (2 * c) m at a x (omega arith)) in
+      let z = length-values (λ j. getD m j 0) at (2 * c) in
+      let two : part m (at + 2 * c) 2 ≡ x ∷ y ∷ [] = rw (e, f) in
+      let v : sets p to (part m at (2 * c)) ≡ sets (sets m to (part m at (2 * c))) a (x ∷ y ∷ [])
+      = rw (o .list) (sets-below (part m at (2 * c)) (x ∷ y ∷ []) m to a (omega arith)) in
+      let w : sets m to (part m at (2 * left)) ≡ sets (sets m to (part m at (2 * c))) a (x ∷ y ∷ [])
+      = rw (k, part-both (2 * c) 2 m at, two, sets-append (part m at (2 * c)) (x ∷ y ∷ []) m to, z) in
+      record { long = same-length o ∙ q .long; list = rw u (v ∙ sym w ∙ q .list) }
 
-  pub insert-end : (r : ℕ) (p : List ℕ) → left ≤ 0 → Emitted m a (i ∷ x ∷ []) r p → Emitted l at (j ∷ y ∷ part l at (2 * n)) r p
+  pub move-end : left ≤ 0 → Emitted l to (part l at (2 * n)) (to + 2 * n) m
   unfolding valuesFrom
-  insert-end r p h g =
+  move-end h =
       let k : 2 * left ≡ 0 = omega arith in
-      record { end = omega (arith, q .ends, g .end, length-values (λ k. getD l k 0) at (2 * n)); list = g .list ∙ (rw k at (q .list)) }
-
-  pub insert-room-last : at + 2 * n + 2 ≤ length l → a + 2 ≤ length m
-  insert-room-last g = omega (arith, q .ends, q .long)
+      record { end = rw (length-values (λ j. getD l j 0) at (2 * n)); list = rw k at (q .list) }

@@ -6,7 +6,7 @@ use mathlib.Core.List.{List}
 use lib.Dec.{ltb}
 use lib.ListN.{length, getD}
 use Rattle.model.specs.Lists.{valuesFrom}
-use Rattle.model.specs.Stores.{Stores, both, listed}
+use Rattle.model.specs.Stores.{Stores, run, both, listed}
 use Rattle.model.proofs.Crash.Stores.{Only}
 use Rattle.stores.specs.Emitted.{Emitted}
 
@@ -36,6 +36,10 @@ elementFrom l a j = getD l (a + j) 0
 -- n words of the list from index k on
 abbrev pub part : List ℕ → ℕ → ℕ → List ℕ
 part l k n = valuesFrom (λ j. getD l j 0) k n
+
+-- the pairs of n words from w on, the j-th being f j
+abbrev pub runText : ℕ → ℕ → (ℕ → ℕ) → List ℕ
+runText w n f = listed (run w n f) n w
 
 -- how many of n pairs from index `from` on stand before the first from behind whose index is less than i
 unfoldable pub placeOf : List ℕ → ℕ → ℕ → ℕ → ℕ

@@ -72,12 +72,12 @@ module _ (v l : List ℕ) (h : 4096 ≤ length l) (k s : ℕ) (marks t : List �
   valid-here = rw (closed-view (word v) (f .closed)) at (there-valid (view (word v)) (word v 1) k (f .there))
 
   file-ready : (ws ds : List ℕ) → 0 < length ws / 8 + length ds / 64 → length ws ≤ 8 → length ds ≤ 576 → 64 * (length ds / 64) ≡ length ds
-      → Ready v marks d ws ds l
-  file-ready ws ds x few most whole =
+      → i < 4294967296 → Ready v marks d ws ds l
+  file-ready ws ds x few most whole low =
       let g = file-below v k s marks t f in
       rw same-append
       (one-log-ready v marks (fileAppend k i z) ws ds l (record { volume = f .volume; good = f .good; closed = f .closed; served = f .served }) refl refl g valid-here
-      (omega arith) (λ y. x) (omega arith) whole (omega arith))
+      (omega arith) (λ y. x) (omega arith) whole (omega arith) low (omega arith))
 
   file-outcome : (ws ds : List ℕ) (es : List (List ℕ)) (c : ℕ) (g : ℕ → ℕ) → entriesOf ws 0 (length ws / 8) ≡ es → length ds / 64 ≡ c
       → ((j : ℕ) → j < 64 * c → element ds j ≡ g j)
@@ -144,10 +144,10 @@ module _ (v l : List ℕ) (k o : ℕ) (bs : List ℕ) where
             write-taken : 64 * c ≡ length (take (64 * c) ds)
             write-taken = written-taken (word v) t o bs i c x ds w
 
-            pub write-ready : Ready v marks d [] (take (64 * c) ds) l
-            write-ready =
+            pub write-ready : f ≡ o / 512 → Ready v marks d [] (take (64 * c) ds) l
+            write-ready first =
                 let n = write-taken in
-                file-ready v l h k s marks t (a .state s e) f z d q [] (take (64 * c) ds) (omega arith) (omega arith) (omega arith) (omega arith)
+                file-ready v l h k s marks t (a .state s e) f z d q [] (take (64 * c) ds) (omega arith) (omega arith) (omega arith) (omega arith) (omega arith)
 
             write-is : cameTo v l (write k o bs) ≡ outcome v (plain (written ∷ []) noWords [])
             unfolding groups action actionGroups writeAction outcome actionChecks
@@ -220,12 +220,12 @@ module _ (v l : List ℕ) (k z : ℕ) where
           one-long : length es ≡ 8
           one-long = rw x (size-long u)
 
-          pub size-ready : Ready v marks d es (take n ds) l
-          size-ready =
+          pub size-ready : f ≡ z / 512 → Ready v marks d es (take n ds) l
+          size-ready first =
               let m = size-taken in
               let g = one-long in
               let o = kept-few (word v) t s z n ds w in
-              file-ready v l h k s marks t (a .state s e) f z′ d q es (take n ds) (omega arith) (omega arith) (omega arith) (omega arith)
+              file-ready v l h k s marks t (a .state s e) f z′ d q es (take n ds) (omega arith) (omega arith) (omega arith) (omega arith) (omega arith)
 
           size-is : cameTo v l (setSize k z) ≡ outcome v (plain (resized ∷ []) noWords [])
           unfolding groups action actionGroups sizeAction outcome actionChecks

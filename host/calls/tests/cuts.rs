@@ -10,8 +10,8 @@ use compiled::fill;
 use reference::layout::set_word;
 use reference::{groups, judge, land, map_after, Call, FileMap, Store};
 use samples::{
-    any_call, clean, create, formatted, link, map_of, marked_list, numbered, random_cut, rename,
-    sample, set_size, text, unlink, write, Random,
+    any_call, appended_entries, clean, create, formatted, in_pieces, link, map_of, marked_list,
+    numbered, random_cut, rename, sample, set_size, text, unlink, write, Random,
 };
 
 /// The most stores of a group of which every set is tried.
@@ -268,4 +268,38 @@ fn the_longest_list() {
     );
     explore(&mut random, &volume, &clean(0), &mut counts);
     assert!(counts.cut > 400 && counts.open > 3, "{counts:?}");
+}
+
+/// Writes into scattered free pages: the data pages, up to nine entries and up to two links in the first group, and the
+/// one tail in the second, which alone makes the map the one from after the call. The journal stays closed.
+#[test]
+fn scattered_writes() {
+    let mut random = Random::new(104);
+    let mut counts = Counts::default();
+    let mut with_entries = [0; 10];
+    for sample in in_pieces().step_by(7) {
+        let call = &sample.writes[0];
+        let Some(list) = filled(&sample.volume, call) else {
+            continue;
+        };
+        let mut whole = sample.volume.clone();
+        land(&mut whole, &list);
+        with_entries[appended_entries(&sample.volume, &whole, 1) as usize] += 1;
+        let lengths: Vec<usize> = groups(&list).iter().map(Vec::len).collect();
+        assert!(lengths.len() == 2 && lengths[1] == 1, "{}", sample.title);
+        let after = map_of(&whole);
+        let mut cuts = 0;
+        each_cut(&mut random, &sample.volume, &list, SMALL, |_, broken| {
+            assert_eq!(filled(broken, &Call::Recover), Some(vec![]));
+            cuts += u64::from(map_of(broken) == after);
+        });
+        assert_eq!(cuts, 1, "{}: the tail alone", sample.title);
+        explore(&mut random, &sample.volume, call, &mut counts);
+    }
+    assert!(
+        with_entries[2..].iter().all(|&count| count > 4),
+        "{with_entries:?}"
+    );
+    assert!(counts.before > 40_000 && counts.after > 100, "{counts:?}");
+    assert!(counts.open == 0 && counts.went_on > 2_000, "{counts:?}");
 }

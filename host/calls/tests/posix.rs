@@ -17,7 +17,7 @@ mod compiled;
 
 use compiled::fill;
 use reference::{judge, Call, Refusal};
-use samples::{any_call, map_of, marked_list, Random};
+use samples::{any_call, appended_entries, map_of, marked_list, scattered, Random};
 use std::collections::{BTreeMap, BTreeSet};
 use std::ffi::OsStr;
 use std::fs::{self, OpenOptions};
@@ -144,6 +144,40 @@ struct Counts {
     done: u64,
     both_refused: u64,
     narrower: BTreeMap<u64, u64>,
+    /// Writes that were done in several stretches of pages.
+    scattered: u64,
+}
+
+/// Makes a call on a volume and in a folder; then both hold the same.
+fn on_both(folder: &Folder, volume: &mut [u8], call: &Call, counts: &mut Counts) {
+    let map = map_of(volume);
+    let name_of = |inode: u64| {
+        let name = map.names.iter().find(|pair| pair.1 == inode);
+        folder.path(&name.expect("each valid file has a name").0)
+    };
+    let mut list = marked_list(4_096);
+    match fill(call, volume, &mut list) {
+        Ok(count) => {
+            let before = volume.to_vec();
+            calls::carry_out(volume, &list, count).expect("a filled list is good");
+            on_host(folder, call, name_of).expect("the host does it too");
+            counts.done += 1;
+            if let Call::Write { inode, .. } = call {
+                let entries = appended_entries(&before, volume, *inode);
+                counts.scattered += u64::from(entries > 1);
+            }
+        }
+        Err(refusal) => match expected_error(call, refusal) {
+            Some(kind) => {
+                let error = on_host(folder, call, name_of).map_err(|error| error.kind());
+                assert_eq!(error, Err(kind), "{call:?}");
+                counts.both_refused += 1;
+            }
+            None => *counts.narrower.entry(refusal.number()).or_default() += 1,
+        },
+    }
+    let seen = Seen::on_host(&folder.0).expect("the folder can be read");
+    assert_eq!(Seen::on_volume(volume), Ok(seen), "{call:?}");
 }
 
 /// So many random calls on a volume and in a folder.
@@ -153,32 +187,24 @@ fn history(seed: u64, pages: u64, inodes: u64, length: u64, counts: &mut Counts)
     let mut volume = random.bytes(pages as usize * 512);
     calls::format(&mut volume, pages, inodes).expect("the sizes are allowed");
     for _ in 0..length {
-        let map = map_of(&volume);
-        let call = any_call(&mut random, inodes, &map);
-        let name_of = |inode: u64| {
-            let name = map.names.iter().find(|pair| pair.1 == inode);
-            folder.path(&name.expect("each valid file has a name").0)
-        };
-        let mut list = marked_list(4_096);
-        match fill(&call, &volume, &mut list) {
-            Ok(count) => {
-                calls::carry_out(&mut volume, &list, count).expect("a filled list is good");
-                on_host(&folder, &call, name_of).expect("the host does it too");
-                counts.done += 1;
-            }
-            Err(refusal) => match expected_error(&call, refusal) {
-                Some(kind) => {
-                    let error = on_host(&folder, &call, name_of).map_err(|error| error.kind());
-                    assert_eq!(error, Err(kind), "{call:?}");
-                    counts.both_refused += 1;
-                }
-                None => *counts.narrower.entry(refusal.number()).or_default() += 1,
-            },
-        }
-        let seen = Seen::on_host(&folder.0).expect("the folder can be read");
-        assert_eq!(Seen::on_volume(&volume), Ok(seen), "{call:?}");
+        let call = any_call(&mut random, inodes, &map_of(&volume));
+        on_both(&folder, &mut volume, &call, counts);
     }
     judge(&volume).expect("the volume is accepted");
+}
+
+/// A folder with the files that stand on a volume.
+fn folder_of(seed: u64, volume: &[u8]) -> io::Result<Folder> {
+    let folder = Folder::new(seed);
+    let map = map_of(volume);
+    for (place, (name, inode)) in map.names.iter().enumerate() {
+        let earlier = map.names[..place].iter().find(|pair| pair.1 == *inode);
+        match earlier {
+            Some((first, _)) => fs::hard_link(folder.path(first), folder.path(name))?,
+            None => fs::write(folder.path(name), &map.files[inode])?,
+        }
+    }
+    Ok(folder)
 }
 
 #[test]
@@ -202,4 +228,23 @@ fn the_host_does_the_same() {
         let times = counts.narrower.get(&number).copied().unwrap_or(0);
         assert!(times > 20, "{number}: {counts:?}");
     }
+}
+
+/// Volumes with scattered free pages, and folders with the same files: the samples' writes, one after the other with
+/// other calls between them.
+#[test]
+fn the_host_does_the_same_as_scattered_writes() {
+    let mut counts = Counts::default();
+    for (sample, seed) in scattered().step_by(29).zip(1_000..) {
+        let mut random = Random::new(seed);
+        let mut volume = sample.volume;
+        let inodes = judge(&volume).expect("accepted").sizes.inodes();
+        let folder = folder_of(seed, &volume).expect("the host has room");
+        for call in &sample.writes {
+            on_both(&folder, &mut volume, call, &mut counts);
+            let other = any_call(&mut random, inodes, &map_of(&volume));
+            on_both(&folder, &mut volume, &other, &mut counts);
+        }
+    }
+    assert!(counts.done > 1_000 && counts.scattered > 100, "{counts:?}");
 }

@@ -13,7 +13,7 @@ use std::ffi::OsStr;
 use std::fs;
 use std::os::unix::ffi::OsStrExt;
 use std::process::Stdio;
-use tool::{files, Folder};
+use tool::{calls_of_put, files, maps_of_calls, Folder};
 
 /// A folder with a volume of 64 pages and 16 inodes that holds "a" (700 bytes) and "b" (1 byte).
 fn with_files(test: &str) -> Folder {
@@ -118,6 +118,92 @@ fn put_over_one_of_two_names() {
     folder.done(&["put", "v", "a"]);
     let all = files(&[("b", 2, b"!"), ("gate", 1, &text(700)), ("a", 3, b"new")]);
     assert_eq!(folder.map(), all);
+}
+
+/// A folder with a volume of scattered gaps into which "c" (4,097 bytes) and "d" (5,000 bytes) were put.
+fn with_scattered_files(test: &str) -> Folder {
+    let folder = Folder::with_scattered_gaps(test);
+    folder.write("c", &text(4_097));
+    folder.write("d", &text(5_000));
+    folder.says(
+        &["put", "v", "c", "d"],
+        "2 files put, 9,097 bytes; 1 page free\n",
+    );
+    folder
+}
+
+#[test]
+fn put_into_scattered_gaps() {
+    let folder = Folder::with_scattered_gaps("scattered-gaps");
+    let gaps = String::from_utf8(folder.done(&["gaps", "v"])).expect("text");
+    let end = "\nlongest: 2 pages, 10-11\ntotal: 23 free pages in 12 stretches\n";
+    assert!(gaps.ends_with(end), "{gaps}");
+    let put = [("c", 4_097), ("d", 5_000)].map(|(name, size)| (name.into(), text(size)));
+    let calls = calls_of_put(&folder.read("v"), &put);
+    let map = maps_of_calls(&folder.read("v"), &calls).pop();
+
+    let folder = with_scattered_files("put-scattered");
+    assert_eq!(Some(folder.map()), map);
+    folder.says(
+        &["check", "v"],
+        "accepted: 14 names, 1 free page, journal closed\n",
+    );
+    for (name, size) in [("c", 4_097), ("d", 5_000)] {
+        assert!(
+            folder.done(&["get", "v", name, "-"]) == text(size),
+            "{name}"
+        );
+    }
+}
+
+/// A write has an entry for each stretch that it takes. The end of "d" finds a run, 59 and 60, and takes it though 55 is free.
+#[test]
+fn log_of_scattered_writes() {
+    let folder = with_scattered_files("log-scattered");
+    let text = "\
+inode 1, file, name \"c\", size 4097: log of 5 entries on 1 page, head 30, tail 15680
+page 30, entry 1: write: file pages 0-1 on data pages 10-11, size 4096
+page 30, entry 2: write: file pages 2-3 on data pages 15-16, size 4096
+page 30, entry 3: write: file pages 4-5 on data pages 20-21, size 4096
+page 30, entry 4: write: file pages 6-7 on data pages 25-26, size 4096
+page 30, entry 5: write: file page 8 on data page 31, size 4097
+";
+    folder.says(&["log", "v", "c"], text);
+    let text = "\
+inode 3, file, name \"d\", size 5000: log of 5 entries on 1 page, head 54, tail 27968
+page 54, entry 1: write: file pages 0-1 on data pages 35-36, size 4096
+page 54, entry 2: write: file pages 2-3 on data pages 40-41, size 4096
+page 54, entry 3: write: file pages 4-5 on data pages 44-45, size 4096
+page 54, entry 4: write: file pages 6-7 on data pages 49-50, size 4096
+page 54, entry 5: write: file pages 8-9 on data pages 59-60, size 5000
+";
+    folder.says(&["log", "v", "d"], text);
+}
+
+/// 23 pages are free: 20 for the data, two for the file's log, one for the directory's. One byte more needs another page.
+#[test]
+fn put_fills_every_gap_or_stores_nothing() {
+    let folder = Folder::with_scattered_gaps("put-fills");
+    let before = folder.read("v");
+    folder.write("large", &text(10_241));
+    let line = "office: large: refused 12 (no space); remove files, or run 'office clean v'\n";
+    folder.fails(&["put", "v", "large"], 1, line);
+    assert!(folder.read("v") == before, "refused whole");
+    folder.write("large", &text(10_240));
+    folder.says(
+        &["put", "v", "large"],
+        "1 file put, 10,240 bytes; 0 pages free\n",
+    );
+    folder.says(
+        &["check", "v"],
+        "accepted: 13 names, 0 free pages, journal closed\n",
+    );
+    assert!(folder.done(&["get", "v", "large", "-"]) == text(10_240));
+    let log = String::from_utf8(folder.done(&["log", "v", "large"])).expect("text");
+    let lines: Vec<&str> = log.lines().collect();
+    let head = "inode 1, file, name \"large\", size 10240: log of 11 entries on 2 pages, head 30, tail 25856";
+    assert_eq!((lines[0], lines.len()), (head, 1 + 11));
+    assert!(lines[1..].iter().all(|line| line.contains(": write: ")));
 }
 
 #[test]

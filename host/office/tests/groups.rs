@@ -162,18 +162,32 @@ fn clean_all() {
 #[test]
 fn put() {
     let folder = Folder::new("cut-put");
-    let volume = used();
     for (name, size, groups, open) in [("a", 9_000, 4 + 3 * 2 + 4, 4), ("new", 0, 4 + 2, 2)] {
-        let bytes = text(size);
-        folder.write(name, &bytes);
-        let calls = calls_of_put(&volume, &[(name.into(), bytes.clone())]);
-        let counts = cut_everywhere(&folder, &volume, &["put", "v", name], &calls);
+        let counts = cut_put(&folder, &used(), name, size);
         assert_eq!((counts.cut, counts.open), (groups, open));
-        assert!(counts.parts > 0);
-        for map in maps_of_calls(&volume, &calls) {
-            old_or_new(&map_of(&volume), &map, name.as_bytes(), &bytes);
-        }
     }
+}
+
+/// Two of the three writes take several stretches, and each has two groups all the same.
+#[test]
+fn put_into_scattered_gaps() {
+    let folder = Folder::with_scattered_gaps("cut-scattered");
+    let volume = folder.read("v");
+    let counts = cut_put(&folder, &volume, "b01", 9_000);
+    assert_eq!((counts.cut, counts.open), (4 + 3 * 2 + 4, 4));
+}
+
+/// Cuts the put of a file of this name and size in each of its groups, from a volume.
+fn cut_put(folder: &Folder, volume: &[u8], name: &str, size: usize) -> Counts {
+    let bytes = text(size);
+    folder.write(name, &bytes);
+    let calls = calls_of_put(volume, &[(name.into(), bytes.clone())]);
+    let counts = cut_everywhere(folder, volume, &["put", "v", name], &calls);
+    assert!(counts.parts > 0);
+    for map in maps_of_calls(volume, &calls) {
+        old_or_new(&map_of(volume), &map, name.as_bytes(), &bytes);
+    }
+    counts
 }
 
 /// Of a put that passes through a map, all other files are as before and the one put is old or new.

@@ -118,7 +118,36 @@ pub fn rename(volume: &[u8], old: &[u8], new: &[u8], list: &mut [u64]) -> Answer
 
 /// Write: lays the bytes over the file's from the offset on, in fresh data pages.
 ///
-/// 0 bytes changes nothing. The refusals are 1, 2, 3, 4, 6, 8, 9 and 12.
+/// 0 bytes changes nothing. The fresh pages may lie scattered: order 3, "It appends one write entry
+/// for each longest stretch among them, all with the final size, in file order." The refusals are
+/// 1, 2, 3, 4, 6, 8, 9 and 12.
+///
+/// ```
+/// use reference::{carry_out, create, format, judge, unlink, write};
+///
+/// let mut volume = vec![0; 16 * 512];
+/// let mut list = vec![0; 4096];
+/// format(&mut volume, 16, 8)?;
+/// for name in [b"a", b"b", b"c"] {
+///     let count = create(&volume, name, &mut list)?;
+///     carry_out(&mut volume, &list, count)?;
+/// }
+/// for (inode, length) in [(1, 512), (2, 3_072), (3, 512)] {
+///     let count = write(&volume, inode, 0, &vec![7; length], &mut list)?;
+///     carry_out(&mut volume, &list, count)?;
+/// }
+/// let count = unlink(&volume, b"a", &mut list)?;
+/// carry_out(&mut volume, &list, count)?;
+/// assert_eq!(judge(&volume)?.free_stretches(), [(3, 2), (14, 2)]);
+///
+/// let count = write(&volume, 3, 0, &[8; 1_536], &mut list)?;
+/// assert_eq!(count, 2 * (3 * 64 + 2 * 8 + 3));
+/// carry_out(&mut volume, &list, count)?;
+/// let volume = judge(&volume)?;
+/// let pages: Vec<_> = volume.files[&3].mapped().collect();
+/// assert_eq!(pages, [(0, 3), (1, 4), (2, 14)]);
+/// # Ok::<(), reference::Refusal>(())
+/// ```
 pub fn write(volume: &[u8], inode: u64, offset: u64, bytes: &[u8], list: &mut [u64]) -> Answer {
     let volume = judge_for_change(volume, list)?;
     let file = find_file(&volume, inode)?;
@@ -138,20 +167,16 @@ pub fn write(volume: &[u8], inode: u64, offset: u64, bytes: &[u8], list: &mut [u
     fresh[start..start + bytes.len()].copy_from_slice(bytes);
 
     let mut space = Space::of(&volume);
-    let data_page = space.take_run(count as usize)?;
-    let entry = Entry::Write {
-        file_page,
-        data_page,
-        count,
-        size: file.size.max(end),
-    };
+    let pages = space.take_data_pages(count as usize)?;
+    let mapped = (file_page..).zip(pages.iter().copied());
+    let entries = write_entries(mapped, file.size.max(end));
     change_file(
         &volume,
         list,
         space,
         inode,
-        &[entry],
-        data_stores(data_page, &fresh),
+        &entries,
+        data_stores(&pages, &fresh),
     )
 }
 
@@ -187,7 +212,7 @@ pub fn set_size(volume: &[u8], inode: u64, size: u64, list: &mut [u64]) -> Answe
         space,
         inode,
         &[cut, copy],
-        data_stores(data_page, &fresh),
+        data_stores(&[data_page], &fresh),
     )
 }
 
@@ -324,8 +349,18 @@ fn directory_entries<'v>(volume: &Volume<'v>) -> Vec<Entry<'v>> {
 /// consecutive data pages; with no mapped page, one set size if the size is not 0.
 fn file_entries(file: &File) -> Vec<Entry<'static>> {
     let size = file.size;
+    let entries = write_entries(file.mapped(), size);
+    if entries.is_empty() && size != 0 {
+        return vec![Entry::SetSize { size }];
+    }
+    entries
+}
+
+/// One write entry for each longest stretch of consecutive file pages on consecutive data pages,
+/// all with this size. The pairs of file page and data page are given by ascending file page.
+fn write_entries(mapped: impl Iterator<Item = (u64, u64)>, size: u64) -> Vec<Entry<'static>> {
     let mut stretches: Vec<(u64, u64, u64)> = Vec::new();
-    for (file_page, data_page) in file.mapped() {
+    for (file_page, data_page) in mapped {
         match stretches.last_mut() {
             Some((first_file, first_data, count))
                 if *first_file + *count == file_page && *first_data + *count == data_page =>
@@ -334,9 +369,6 @@ fn file_entries(file: &File) -> Vec<Entry<'static>> {
             }
             _ => stretches.push((file_page, data_page, 1)),
         }
-    }
-    if stretches.is_empty() && size != 0 {
-        return vec![Entry::SetSize { size }];
     }
     let write = |(file_page, data_page, count)| Entry::Write {
         file_page,

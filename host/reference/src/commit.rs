@@ -75,12 +75,18 @@ pub(crate) fn append(
     })
 }
 
-/// The stores of fresh data pages: all 64 words of each, from the first page on.
-pub(crate) fn data_stores(first_page: u64, bytes: &[u8]) -> impl Iterator<Item = Store> + '_ {
+/// The stores of fresh data pages: all 64 words of each, the bytes in the order of the pages.
+pub(crate) fn data_stores<'a>(
+    pages: &'a [u64],
+    bytes: &'a [u8],
+) -> impl Iterator<Item = Store> + 'a {
     let words = bytes
         .chunks_exact(8)
         .map(|chunk| u64::from_le_bytes(chunk.try_into().unwrap_or_default()));
-    (first_page * PAGE_WORDS..).zip(words)
+    let indices = pages
+        .iter()
+        .flat_map(|page| (page * PAGE_WORDS..).take(PAGE_WORDS as usize));
+    indices.zip(words)
 }
 
 /// Commits with one word: first group the preparation, second group the word.

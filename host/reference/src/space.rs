@@ -17,6 +17,18 @@ impl Space {
         }
     }
 
+    /// Takes the data pages of a write, in file order: the lowest run of `count` free pages, or the
+    /// lowest free pages where there is no such run. The refusal is 12.
+    ///
+    /// Order 3: "A write that finds no single run shall take the lowest free pages one by one, as
+    /// many as it needs." Whether pages are left for the log is not asked here.
+    pub(crate) fn take_data_pages(&mut self, count: usize) -> Result<Vec<u64>, Refusal> {
+        match self.take_run(count) {
+            Ok(first) => Ok((first..).take(count).collect()),
+            Err(_) => (0..count).map(|_| self.take_page()).collect(),
+        }
+    }
+
     /// Takes the lowest run of `count` free pages; answers its first page. The refusal is 12.
     pub(crate) fn take_run(&mut self, count: usize) -> Result<u64, Refusal> {
         let mut length = 0;

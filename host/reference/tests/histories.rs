@@ -22,6 +22,7 @@ struct Counts {
     landed: u64,
     cut: u64,
     left_open: u64,
+    scattered: u64,
     refused: [u64; 15],
 }
 
@@ -30,9 +31,15 @@ impl History {
         let mut random = Random::new(seed);
         let mut volume = random.bytes(pages as usize * 512);
         assert_eq!(reference::format(&mut volume, pages, inodes), Ok(()));
+        History::on(random, volume)
+    }
+
+    /// A history from an accepted volume with a closed journal on, which gets any position.
+    fn on(mut random: Random, mut volume: Vec<u8>) -> History {
         let position = random.below(16);
         set_word(&mut volume, 8, position);
         set_word(&mut volume, 9, position);
+        let inodes = word(&volume, 1);
         History {
             random,
             volume,
@@ -62,6 +69,7 @@ impl History {
         assert_eq!(expected, None, "{call:?}");
         assert!(list.len() <= longest_list(&call), "{call:?}");
         check_places(&judge(&self.volume).unwrap(), &call, &list);
+        self.counts.scattered += u64::from(is_scattered(&judge(&self.volume).unwrap(), &call));
         let after = map_after(&before, self.inodes, &call);
         self.try_cuts(&list, &before, &after);
         if self.random.once_in(3) {
@@ -156,7 +164,7 @@ fn longest_list(call: &Call) -> usize {
         Call::Link { .. } => 24,
         Call::Unlink { .. } => 42,
         Call::Rename { .. } => 58,
-        Call::Write { .. } => 1_176,
+        Call::Write { .. } => 1_306,
         Call::SetSize { .. } => 168,
         Call::Clean { inode: 0 } => 3_670,
         Call::Clean { .. } => 2_108,
@@ -164,31 +172,30 @@ fn longest_list(call: &Call) -> usize {
     }
 }
 
-/// What a call that changes something needs: a run of data pages, and log pages.
+/// What a call that changes something needs: data pages, and log pages.
 struct Need {
-    run: u64,
+    data_pages: u64,
     log_pages: u64,
 }
 
 /// What a call needs, worked out from counts alone; none if it changes nothing.
 fn need(volume: &Volume<'_>, map: &FileMap, call: &Call) -> Option<Need> {
-    let appended = |inode: u64, run: u64, more: u64| {
+    let appended = |inode: u64, data_pages: u64, more: u64| {
         let entries = log_entries(volume, inode);
         let log_pages = (entries + more).div_ceil(7) - entries.div_ceil(7);
-        Some(Need { run, log_pages })
+        Some(Need {
+            data_pages,
+            log_pages,
+        })
     };
     match call {
         Call::Create { .. } | Call::Link { .. } | Call::Unlink { .. } => appended(0, 0, 1),
         Call::Rename { old, new } if map.inode_of(old) == map.inode_of(new) => None,
         Call::Rename { .. } => appended(0, 0, 2),
         Call::Write { bytes, .. } if bytes.is_empty() => None,
-        Call::Write {
-            inode,
-            offset,
-            bytes,
-        } => {
-            let last = (offset + bytes.len() as u64 - 1) / 512;
-            appended(*inode, last - offset / 512 + 1, 1)
+        Call::Write { inode, .. } => {
+            let data_pages = covered_pages(call);
+            appended(*inode, data_pages, write_entries(volume, data_pages))
         }
         Call::SetSize { inode, size } => {
             let file = &volume.files[inode];
@@ -203,10 +210,36 @@ fn need(volume: &Volume<'_>, map: &FileMap, call: &Call) -> Option<Need> {
         }
         Call::Clean { inode } => {
             let log_pages = clean_entries(volume, *inode).div_ceil(7);
-            (log_entries(volume, *inode) > 0).then_some(Need { run: 0, log_pages })
+            (log_entries(volume, *inode) > 0).then_some(Need {
+                data_pages: 0,
+                log_pages,
+            })
         }
         Call::Recover => None,
     }
+}
+
+/// The count of file pages that a write of at least one byte covers; 0 for other calls.
+fn covered_pages(call: &Call) -> u64 {
+    match call {
+        Call::Write { offset, bytes, .. } if !bytes.is_empty() => {
+            (offset + bytes.len() as u64 - 1) / 512 - offset / 512 + 1
+        }
+        _ => 0,
+    }
+}
+
+/// The count of entries of a write that covers so many pages: the places where its data pages,
+/// ascending, do not go on from the page before.
+fn write_entries(volume: &Volume<'_>, covered: u64) -> u64 {
+    let pages = data_places(&free_pages(volume), covered);
+    let begins = |page: &&u64| !pages.contains(&(**page - 1));
+    pages.iter().filter(begins).count() as u64
+}
+
+/// Whether a call is a write whose data pages lie scattered.
+fn is_scattered(volume: &Volume<'_>, call: &Call) -> bool {
+    write_entries(volume, covered_pages(call)) > 1
 }
 
 /// The count of entries in a log.
@@ -233,27 +266,39 @@ fn clean_entries(volume: &Volume<'_>, inode: u64) -> u64 {
     }
 }
 
-/// The lowest run of free pages, and the lowest pages left for the log; none if there is no space.
-fn places(volume: &Volume<'_>, need: &Need) -> Option<Vec<u64>> {
+/// The free pages, ascending.
+fn free_pages(volume: &Volume<'_>) -> Vec<u64> {
     let pages = 0..volume.sizes.pages();
-    let free: Vec<u64> = pages
+    pages
         .filter(|&page| volume.uses[page as usize] == Use::Free)
-        .collect();
-    let is_run = |&first: &u64| (first..first + need.run).all(|page| free.contains(&page));
-    let mut taken: Vec<u64> = Vec::new();
-    if need.run > 0 {
-        let first = free.iter().copied().find(is_run)?;
-        taken.extend(first..first + need.run);
-    }
-    let left = free.iter().filter(|page| !taken.contains(page));
-    let log: Vec<u64> = left.take(need.log_pages as usize).copied().collect();
-    let enough = log.len() as u64 == need.log_pages;
-    taken.extend(log);
-    enough.then_some(taken)
+        .collect()
 }
 
+/// The lowest run of so many free pages; where there is none, the lowest free pages, fewer if fewer
+/// are free.
+fn data_places(free: &[u64], count: u64) -> Vec<u64> {
+    let is_run = |&first: &u64| (first..first + count).all(|page| free.contains(&page));
+    match free.iter().copied().find(is_run) {
+        Some(first) => (first..first + count).collect(),
+        None => free.iter().take(count as usize).copied().collect(),
+    }
+}
+
+/// The pages that a call with enough space takes: the data pages, and the lowest left for the log.
+fn places(volume: &Volume<'_>, need: &Need) -> Vec<u64> {
+    let free = free_pages(volume);
+    let mut taken = data_places(&free, need.data_pages);
+    let left = free.iter().filter(|page| !taken.contains(page));
+    let log: Vec<u64> = left.take(need.log_pages as usize).copied().collect();
+    taken.extend(log);
+    taken
+}
+
+/// "12 now means that the free pages are fewer than the data and log pages together": of set size,
+/// whose data is one page, and of the calls without data it means the same.
 fn has_space(volume: &Volume<'_>, map: &FileMap, call: &Call) -> bool {
-    need(volume, map, call).is_none_or(|need| places(volume, &need).is_some())
+    let free = free_pages(volume).len() as u64;
+    need(volume, map, call).is_none_or(|need| free >= need.data_pages + need.log_pages)
 }
 
 /// Checks that log and data pages are stored only where the call may: the lowest free pages, and
@@ -269,7 +314,7 @@ fn check_places(volume: &Volume<'_>, call: &Call, list: &[u64]) {
         _ => 0,
     };
     let tail = volume.word(tail_word(inode));
-    let mut taken = places(volume, &need).unwrap();
+    let mut taken = places(volume, &need);
     let first_word = volume.sizes.first_page() * 64;
     let stores: Vec<(u64, u64)> = groups(list).concat();
     for &(index, _) in stores.iter().filter(|store| store.0 >= first_word) {
@@ -303,17 +348,34 @@ fn small_volumes() {
         total.landed += counts.landed;
         total.cut += counts.cut;
         total.left_open += counts.left_open;
+        total.scattered += counts.scattered;
         for (sum, count) in total.refused.iter_mut().zip(counts.refused) {
             *sum += count;
         }
     }
     assert!(total.landed > 500 && total.cut > 200 && total.left_open > 40);
+    assert!(total.scattered > 4, "{}", total.scattered);
     for number in [4, 5, 6, 7, 8, 9, 10, 12] {
         assert!(total.refused[number] > 5, "{number}: {:?}", total.refused);
     }
     for number in [1, 2, 3, 13, 14] {
         assert_eq!(total.refused[number], 0);
     }
+}
+
+/// From volumes with scattered free pages on: few calls each, since they make runs again.
+#[test]
+fn scattered_volumes() {
+    let mut scattered_writes = 0;
+    for (sample, seed) in scattered().step_by(9).zip(200..) {
+        let mut history = History::on(Random::new(seed), sample.volume);
+        for _ in 0..12 {
+            history.step();
+        }
+        history.check_readings();
+        scattered_writes += history.counts.scattered;
+    }
+    assert!(scattered_writes > 80, "{scattered_writes}");
 }
 
 #[test]

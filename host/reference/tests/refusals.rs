@@ -3,7 +3,7 @@
 
 use reference::layout::{set_word, tail_word, word};
 use reference::{
-    carry_out, find, format, free_count, gaps, kth_name, listing, read, size, Answer, Call,
+    carry_out, find, format, free_count, gaps, judge, kth_name, listing, read, size, Answer, Call,
     Refusal, FENCE,
 };
 use samples::*;
@@ -460,8 +460,10 @@ fn a_log_needs_a_page() {
     }
 }
 
+/// Where no run is long enough, scattered pages will do (order 3); data and log pages together are
+/// more than are free where the call is refused.
 #[test]
-fn data_needs_a_run_and_then_the_log_a_page() {
+fn data_needs_free_pages_and_then_the_log_some() {
     let mut volume = formatted(16, 8);
     done(&mut volume, &create(b"A1"));
     done(&mut volume, &create(b"B2"));
@@ -472,8 +474,16 @@ fn data_needs_a_run_and_then_the_log_a_page() {
     assert_eq!(free_count(&volume), Ok(1));
     done(&mut volume, &set_size(2, 0));
     assert_eq!(free_count(&volume), Ok(6));
-    assert_eq!(refused(&volume, &write(1, 0, &text(1_025))), 12, "no run");
-    assert!(filled(&volume, &write(1, 0, &text(512))).is_ok());
+    let stretches = judge(&volume).unwrap().free_stretches();
+    assert_eq!(stretches, [(5, 1), (8, 1), (10, 1), (12, 1), (14, 2)]);
+    for pages in 1..=5 {
+        assert!(filled(&volume, &write(1, 0, &text(512 * pages))).is_ok());
+    }
+    assert_eq!(
+        refused(&volume, &write(1, 0, &text(2_561))),
+        12,
+        "six pages and one for the log"
+    );
 
     let mut volume = formatted(16, 8);
     done(&mut volume, &create(b"A1"));

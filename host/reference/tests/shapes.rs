@@ -241,8 +241,9 @@ fn the_largest_file() {
     assert_eq!(lands(&mut volume, &clean(1)), 40, "one kind 2");
 }
 
+/// The longest of a write that finds a run; tests/scattered.rs has the longest of all.
 #[test]
-fn the_longest_write() {
+fn the_longest_write_into_a_run() {
     let mut volume = formatted(64, 8);
     lands(&mut volume, &create(b"a"));
     assert_eq!(lands(&mut volume, &write(1, 511, &text(4_096))), 1_176);

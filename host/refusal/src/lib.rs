@@ -42,7 +42,7 @@ pub enum Refusal {
     NoInode = 10,
     /// 11: a 225th name.
     DirectoryFull = 11,
-    /// 12: no run long enough for the data, or no page left for the log where it needs one.
+    /// 12: the free pages are fewer than the data and log pages together.
     NoSpace = 12,
     /// 13: carry out's list is not a store list for this volume.
     BadList = 13,

@@ -3,9 +3,9 @@
 //! A test of the reference model and a test of the compiled calls take their volumes from the same
 //! makers: by hand ([`sample`], [`put_log`], [`DirectoryLog`], [`with_free_pages`]), by random calls and
 //! power cuts ([`used_volume`], [`any_call`]), put together at random ([`made_up`]), damaged ([`change_live_word`],
-//! [`flip_live_bit`]), with page numbers past 16 bits ([`wide_pages()`]), and noise ([`headed_noise`]). What is random
-//! comes from a [`Random`] alone, so that a seed gives the same volumes again. Document 01's cases are rows of one
-//! table ([`cases()`]), for any library of the calls.
+//! [`flip_live_bit`]), with page numbers past 16 bits ([`wide_pages()`]), with scattered free pages ([`scattered()`]),
+//! and noise ([`headed_noise`]). What is random comes from a [`Random`] alone, so that a seed gives the same volumes
+//! again. Document 01's cases are rows of one table ([`cases()`]), for any library of the calls.
 //!
 //! ```
 //! use reference::random::Random;
@@ -29,6 +29,7 @@ mod made_up;
 mod noise;
 mod numbers;
 mod random_calls;
+mod scattered;
 mod wide_pages;
 
 pub use by_hand::{
@@ -51,4 +52,7 @@ pub use noise::headed_noise;
 pub use numbers::{any_name, any_number, NUMBERS};
 pub use random_calls::{any_call, any_calls, random_cut, used_volume};
 pub use reference::random::Random;
+pub use scattered::{
+    appended_entries, every_second_free, in_pieces, scattered, with_runs, Scattered,
+};
 pub use wide_pages::{calls_on_wide_pages, wide_pages, PageWord, WideChange, WidePages, WideWord};

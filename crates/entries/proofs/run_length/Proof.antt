@@ -5,10 +5,10 @@ use Rattle.entries.proofs.run_length.Statement.{statement}
 use Rattle.entries.proofs.run_length.Tie as tie
 
 abbrev Inv-loop : tie.InvT-loop
-Inv-loop table i first c₀ c = Running table i c × (first ≡ getD table i 0)
+Inv-loop table i n first c₀ c = Running table i c × (first ≡ getD table i 0)
 
 abbrev μ-loop : tie.MeasureT-loop
-μ-loop table i first c₀ c = 128 - (i + c)
+μ-loop table i n first c₀ c = n - (i + c)
 
 pub run-length-spec : {M : Type 1} → statement M
 run-length-spec =
@@ -16,11 +16,13 @@ run-length-spec =
     (tie.spec
     Inv-loop
     μ-loop
-    (λ c κs. search needs)
+    (λ c. search needs)
+    (λ c. search needs)
     (λ c. search (running-one, needs))
     (λ c. search needs)
     (λ c. search needs)
-    (λ c κs. search needs)
+    (λ c. search needs)
+    (λ c. search needs)
     (λ c. search (run-below, needs))
     (λ c. search (run-apart, needs))
     (λ c. search needs)

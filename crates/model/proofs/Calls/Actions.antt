@@ -2,13 +2,14 @@
 use Rattle.model.proofs.Prelude.{_≡_, refl, fun-ext, ℕ, Bool, true, false, List, [], _∷_, _++_, append-nil, Option, none, some, arith, length, getD}
 use Rattle.model.specs.Words.{Mem}
 use Rattle.model.specs.Layout.{headWord, tailWord}
-use Rattle.model.specs.Lists.{valuesFrom, indexOf}
+use Rattle.model.specs.Lists.{valuesFrom, lowestFew, indexOf}
 use Rattle.model.specs.Stretches.{stretches}
 use Rattle.model.specs.Accept.{free}
 use Rattle.model.specs.FileMap.{FileMap}
 use Rattle.model.specs.Stores.{Stores, noWords, both, onlyIf}
-use Rattle.model.specs.Calls.{Change, Append, layEntries, layPages, tailAfter, pagesFor, commit, entriesOnly, stretchEntries, lowestRun, runFrom, dataPages, appended, oldPages, oldSlots, freshPages, freshLog, noRoom, prepared, newTail, ownChanges, lacksRoom, allPrepared, allChanges}
+use Rattle.model.specs.Calls.{Change, Append, layEntries, layPages, tailAfter, pagesFor, commit, entriesOnly, stretchEntries, lowestRun, runOr, lowestPages, dataPages, appended, oldPages, oldSlots, freshPages, freshLog, noRoom, prepared, newTail, ownChanges, lacksRoom, allPrepared, allChanges}
 use Rattle.model.proofs.Tests.{by-bool}
+use Rattle.model.proofs.Lists.{few-none}
 use Rattle.model.proofs.Frame.Dead.{low, frame}
 use Rattle.model.proofs.Crash.Stores.{first-none}
 use Rattle.model.proofs.Crash.Commit.{Ready, Owed, Sound, commit-safe}
@@ -33,14 +34,14 @@ module _ (u : Mem) (P : ℕ) (f : ℕ → Bool) (a : Append) where
   one-changes = append-nil (ownChanges u P f a)
 
 -- entries and no data
-run-none : (o : Option ℕ) → runFrom 0 o ≡ []
+run-none : (f : ℕ → Bool) (P : ℕ) (o : Option ℕ) → runOr 0 o (lowestFew f P 0 0) ≡ []
 unfolding valuesFrom
-run-none none = refl
-run-none (some p) = refl
+run-none f P none = few-none f P 0
+run-none f P (some p) = refl
 
 pub no-data : (u : Mem) (P : ℕ) (f : ℕ → Bool) (b : Bool) (k : ℕ) (es : List (List ℕ)) → dataPages u P f (entriesOnly b k es) ≡ []
-unfolding dataPages entriesOnly
-no-data u P f b k es = run-none (lowestRun f P 0)
+unfolding dataPages lowestPages entriesOnly
+no-data u P f b k es = run-none f P (lowestRun f P 0)
 
 pub only-entries : (u : Mem) (P : ℕ) (f : ℕ → Bool) (b : Bool) (k : ℕ) (es : List (List ℕ)) → appended u P f (entriesOnly b k es) ≡ es
 unfolding appended entriesOnly stretches stretchEntries

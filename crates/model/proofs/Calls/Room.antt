@@ -1,13 +1,14 @@
 -- The free pages that a call takes: each once, and serving nobody. That is what the searches find where refusal 12 does not hold.
-use Rattle.model.proofs.Prelude.{_≡_, refl, sym, _∙_, _⊎_, inl, inr, ℕ, _+_, _-_, _*_, _/_, _%_, _≤_, _<_, Bool, true, false, List, [], Option, none, some, arith, length, getD, ltb, eqb-true, ltb-false, not-true, le-ltb, lt-ltb}
-use Rattle.model.specs.Lists.{allBelow, lowestFew, has, count, indexOf, distinct}
+use Rattle.model.proofs.Prelude.{_≡_, refl, sym, _∙_, _⊎_, inl, inr, ℕ, _+_, _*_, _/_, _%_, _≤_, _<_, Bool, true, false, List, [], none, some, arith, length, getD, ltb, eqb-true, ltb-false, not-true, le-ltb, lt-ltb}
+use Rattle.model.specs.Lists.{lowestFew, has, count, indexOf, distinct}
 use Rattle.model.specs.Words.{Mem}
 use Rattle.model.specs.Layout.{inPages}
 use Rattle.model.specs.Accept.{uses, free}
-use Rattle.model.specs.Calls.{Append, layPages, besides, lowestRun, runFrom, dataPages, freshPages, freshLog, noRoom}
+use Rattle.model.specs.Calls.{Append, layPages, besides, lowestPages, dataPages, freshPages, freshLog, noRoom}
 use Rattle.model.proofs.Tests.{by-bool, no, not-some, ands, or-false, cond-some}
-use Rattle.model.proofs.Lists.{allBelow-at, lowest-is, length-values, values-in, values-distinct, few-holds, few-length, few-distinct, has-getD, index-none, index-getD, count-none, count-once}
+use Rattle.model.proofs.Lists.{few-holds, few-length, few-distinct, has-getD, index-none, index-getD, count-none, count-once}
 use Rattle.model.proofs.Frame.Placed.{in-bounds, zero-outside}
+use Rattle.model.proofs.Calls.DataPages.{pages-hold, pages-apart, pages-few, room-parts}
 
 -- n free pages, each once
 pub record Fresh (u : Mem) (P N : ℕ) (ls : List ℕ) (n : ℕ) : Type 0 where
@@ -50,31 +51,24 @@ module _ (u : Mem) (P N : ℕ) where
       let b = few-length f P 0 n in
       record { number = omega arith; apart = few-distinct f P 0 n; unused = λ x h. g x (few-holds f P 0 n x h .0) }
 
-  -- what a search for a run of n free pages finds, if there is one
-  fresh-run : (n : ℕ) (o : Option ℕ) → lowestRun (free u P N) P n ≡ o → ltb (length (runFrom n o)) n ≡ false → Fresh u P N (runFrom n o) n
-  unfolding lowestRun
-  fresh-run n none e h = let z = ltb-false 0 n h in let q : n ≡ 0 = omega arith in rw q fresh-none
-  fresh-run n (some p) e h =
-      let t = lowest-is (λ p. allBelow n (λ i. free u P N (p + i))) P 0 p e .holds in
-      record {
-        number = length-values (λ i. i) p n;
-        apart = values-distinct p n;
-        unused = λ x m.
-            let b = values-in p n x m in
-            let q : p + (x - p) ≡ x = omega arith in
-            rw q at (allBelow-at n (x - p) (λ i. free u P N (p + i)) t (omega arith));
-      }
+  -- the n pages that data goes to, if there are enough
+  fresh-data : (n : ℕ) → ltb (length (lowestPages (free u P N) P n)) n ≡ false → Fresh u P N (lowestPages (free u P N) P n) n
+  fresh-data n e =
+      let b : (p : ℕ) → free u P N p ≡ true → p < P = λ p h. free-bounds p h .1 in
+      let a = ltb-false (length (lowestPages (free u P N) P n)) n e in
+      let few = pages-few (free u P N) P b n in
+      record { number = omega arith; apart = pages-apart (free u P N) P b n; unused = λ x h. pages-hold (free u P N) P b n x h .0 }
 
   -- the pages of an append that is not refused with 12
   pub room-found : (a : Append) → noRoom u P (free u P N) a ≡ false
       → Room u P N (dataPages u P (free u P N) a) (a .count) (freshLog u P (free u P N) a) (freshPages u P (free u P N) a)
-  unfolding noRoom freshLog dataPages besides
+  unfolding freshLog dataPages besides
   room-found a e =
-      let o = or-false _ _ e in
+      let o = or-false _ _ (sym (room-parts u P (free u P N) a (λ p h. free-bounds p h .1)) ∙ e) in
       let f = free u P N in
       let ds = dataPages u P f a in
       record {
-        for-data = fresh-run (a .count) (lowestRun f P (a .count)) refl (o .0);
+        for-data = fresh-data (a .count) (o .0);
         for-log = fresh-few (besides f ds) (freshPages u P f a) (λ p h. search ands) (o .1);
         beside = λ x h. let g = few-holds (besides f ds) P 0 (freshPages u P f a) x h .0 in not-true (has x ds) (search ands);
       }

@@ -99,12 +99,7 @@ unfolding stretches
 stretches-some f zero i l h e = omega arith
 stretches-some f (suc n) i l h e = ahead-some i (f i) (stretches f n (i + 1)) (rw (stretches, ne-eqb _ _ h) at e)
 
--- numbers that stand nowhere give none, and consecutive numbers on consecutive pages give one
-pub no-stretch : (f : ℕ → ℕ) (n i : ℕ) → ((j : ℕ) → f j ≡ 0) → stretches f n i ≡ []
-unfolding stretches
-no-stretch f zero i h = refl
-no-stretch f (suc n) i h = rw (stretches, h i) (no-stretch f n (i + 1) h)
-
+-- consecutive numbers on consecutive pages give one
 pub one-stretch : (f : ℕ → ℕ) (n i p : ℕ) → 1 ≤ n → 1 ≤ p → ((t : ℕ) → t < n → f (i + t) ≡ p + t)
     → stretches f n i ≡ record { first = i; page = p; count = n } ∷ []
 unfolding stretches ahead
@@ -193,7 +188,7 @@ module _ (f : ℕ → ℕ) where
 -- The first of them, taken off: c numbers from i on, if they stand on consecutive pages and the next does not go on from them.
 module _ (f : ℕ → ℕ) where
   -- number i does not lengthen the stretches behind it
-  ahead-alone : (n i : ℕ) (ss : List Stretch) → Each (Stands f n (i + 1)) ss → (1 ≤ n → f (i + 1) ≡ f i + 1 → ⊥)
+  pub ahead-alone : (n i : ℕ) (ss : List Stretch) → Each (Stands f n (i + 1)) ss → (1 ≤ n → f (i + 1) ≡ f i + 1 → ⊥)
       → ahead i (f i) ss ≡ record { first = i; page = f i; count = 1 } ∷ ss
   unfolding ahead
   ahead-alone n i [] e h = refl

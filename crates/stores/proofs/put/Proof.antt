@@ -1,6 +1,6 @@
 -- The word is stored already, or its pair is inserted.
 use Rattle.model.proofs.Prelude.{needs}
-use Rattle.stores.proofs.Groups.{put-there, put-new, put-from, put-to}
+use Rattle.stores.proofs.Groups.{put-there, put-new}
 use Rattle.stores.proofs.put.Statement.{statement}
 use Rattle.stores.proofs.put.Tie as tie
 
@@ -20,4 +20,4 @@ put-spec =
     (λ c. search needs)
     (λ c κs. search needs)
     (λ c. search needs)
-    (λ c. (search (put-new, needs), search (put-from, needs), search (put-to, needs))))
+    (λ c. (search (put-new, needs), search needs, search needs)))

@@ -28,7 +28,7 @@ set-size-spec =
     let d = c .before .before .before .before in let g = d .before .before in let i = g .before .before .before in
     let f = i .before .before .before .before .before in
     size-ready _ _ _ _ (f .before .before .before .if1 .left) _ _ _ (f .file .ensures) _ (i .before .before .before .state .given .1) (i .before .if2 .left) (i .if3 .left)
-    _ _ (g .lay-kept .ensures) _ _ (d .before .size-words .ensures) _ _ _ (d .to-file .ensures))
+    _ _ (g .lay-kept .ensures) _ _ (d .before .size-words .ensures) _ _ _ (d .to-file .ensures) refl)
     (λ c. search)
     (λ c.
     let d = c .before .before .before .before .before .before .before in let g = d .before .before in let i = g .before .before .before in

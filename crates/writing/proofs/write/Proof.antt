@@ -34,7 +34,7 @@ write-spec =
     let d = c .before .before .before .before in let g = d .before .before .before in let i = g .before .before .before in
     let n = i .before .before .before in let f = n .before .before .before .before in
     write-ready _ _ _ _ _ (f .before .before .before .if1 .left) _ _ _ (f .file .ensures) _ (n .before .before .state .given .1) (n .if2 .left) (i .before .if4 .left) (i .if5 .left)
-    _ (d .before .before .pages-covered .ensures) _ (g .lay-write .ensures) _ _ _ (d .to-file .ensures))
+    _ (d .before .before .pages-covered .ensures) _ (g .lay-write .ensures) _ _ _ (d .to-file .ensures) refl)
     (λ c. search)
     (λ c.
     let d = c .before .before .before .before .before .before .before in let g = d .before .before .before in

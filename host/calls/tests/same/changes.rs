@@ -32,15 +32,21 @@ fn history(seed: u64, pages: u64, inodes: u64, length: u64, counts: &mut Counts)
     for index in [8, 9] {
         set_word(&mut volume, index, position);
     }
+    random_calls(&mut random, volume, length, counts);
+}
+
+/// So many random calls from an accepted volume on, some of them cut.
+pub fn random_calls(random: &mut Random, mut volume: Vec<u8>, length: u64, counts: &mut Counts) {
+    let inodes = word(&volume, 1);
     for _ in 0..length {
         let open = judge(&volume).is_ok_and(|judged| judged.journal.is_open());
         let call = match open && !random.once_in(3) {
             true => Call::Recover,
-            false => any_call(&mut random, inodes, &map_of(&volume)),
+            false => any_call(random, inodes, &map_of(&volume)),
         };
         let list = Compared::new(&volume, 0, counts).change(&call, 4_096);
         if !list.is_empty() && random.once_in(6) {
-            random_cut(&mut random, &mut volume, &list);
+            random_cut(random, &mut volume, &list);
         } else {
             land(&mut volume, &list);
         }

@@ -16,5 +16,6 @@ mod lent;
 mod lists;
 mod made_up;
 mod noise;
+mod scattered;
 mod shapes;
 mod wide_pages;

@@ -33,6 +33,22 @@ impl Folder {
         folder
     }
 
+    /// A folder with a volume "v" of 64 pages and 32 inodes on which no three free pages lie side by side: 24 files of one
+    /// page, "b00" to "b23", filled it, and every second one of them, from "b00" on, is removed.
+    pub fn with_scattered_gaps(test: &str) -> Folder {
+        let folder = Folder::with_volume(test, 64, 32);
+        let names: Vec<String> = (0..24).map(|number| format!("b{number:02}")).collect();
+        for name in &names {
+            folder.write(format!("day/{name}"), name.as_bytes());
+        }
+        let all = "24 files put, 72 bytes; 0 pages free\n";
+        folder.says(&["put", "v", "day"], all);
+        let second = names.iter().step_by(2).map(String::as_str);
+        let remove: Vec<&str> = ["rm", "v"].into_iter().chain(second).collect();
+        folder.says(&remove, "");
+        folder
+    }
+
     /// The path of a file in the folder.
     pub fn join(&self, name: impl AsRef<Path>) -> PathBuf {
         self.path.join(name)
