@@ -20,6 +20,7 @@ mod maps;
 mod module;
 mod outcome;
 mod reading;
+mod scattered;
 mod sheet;
 mod storing;
 mod strata;

@@ -3,7 +3,7 @@
 use crate::outcome::Outcome;
 use crate::sheet::Sheet;
 use crate::storing::Spoiled;
-use crate::{changing, maps, reading, storing};
+use crate::{changing, maps, reading, scattered, storing};
 use reference::Refusal;
 use samples::Random;
 
@@ -74,6 +74,7 @@ impl Stratum {
 /// All strata.
 pub fn strata() -> Vec<Stratum> {
     let mut all = of_changing();
+    all.extend(of_scattered());
     all.extend(of_reading());
     all.extend(of_storing());
     all.extend(of_cuts());
@@ -105,6 +106,21 @@ fn of_changing() -> Vec<Stratum> {
         }
         let draw = move |name: &str, random: &mut Random| changing::filling(kind, name, random);
         all.push(Stratum::new(call, Outcome::Done, draw).with("by bytes"));
+    }
+    all
+}
+
+/// Writes that find no run of free pages and take them in several pieces: with any number of fresh log
+/// pages, and with two, which few of them need.
+fn of_scattered() -> Vec<Stratum> {
+    let mut all = Vec::new();
+    for outcome in [Outcome::Done, Outcome::Refused(12)] {
+        for (log_pages, detail) in [(0, "scattered"), (2, "two log pages")] {
+            let draw = move |name: &str, random: &mut Random| {
+                scattered::scattered(outcome, log_pages, name, random)
+            };
+            all.push(Stratum::new("write", outcome, draw).with(detail));
+        }
     }
     all
 }

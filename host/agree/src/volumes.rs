@@ -1,15 +1,16 @@
 //! Volumes, at random, each brought towards an outcome. Whether it came about is for the reference
 //! to say: what is drawn here is only likely.
 //!
-//! They have 16 to 20 pages, so that an equation about one is computed in about a second.
+//! They have 16 to 20 pages, so that an equation about one is computed in about a second; more where the
+//! outcome needs more.
 
 use crate::outcome::Outcome;
 use reference::layout::{set_word, word};
 use reference::{cut, format, free_count, groups, land, Call};
 use samples::{
     any_call, any_number, change_live_word, clean, create, entry_add, filled, flip_live_bit,
-    formatted, headed_noise, live_words, made_up_sized, map_of, put_log, random_cut, run, write,
-    Random,
+    formatted, headed_noise, live_words, made_up_sized, map_of, put_log, random_cut, run, set_size,
+    with_free_pages, write, Random,
 };
 
 /// A volume on which a call may well come to this.
@@ -189,6 +190,41 @@ pub fn crowded(random: &mut Random) -> Vec<u8> {
         let _ = run(&mut volume, &call);
     }
     volume
+}
+
+/// A volume whose free pages lie in pieces, so that a write may find no run. The file "a" has data pages; in every
+/// second volume there is "b" too, which has none. The last file's log gets entries, so that any number of slots may
+/// be left in the tail's page; the log of "b" may stay empty.
+pub fn in_pieces(random: &mut Random) -> Vec<u8> {
+    let free = pieces(random);
+    let mut volume = with_free_pages(free.len() as u64, 8, |page| free[page as usize]);
+    let inode = random.between(1, 2);
+    if inode == 2 {
+        run(&mut volume, &create(b"b")).expect("there is room for a second name");
+    }
+    for _ in 0..random.below(8) {
+        let size = random.between(2_500, 6_000);
+        let _ = run(&mut volume, &set_size(inode, size));
+    }
+    volume
+}
+
+/// Which of 16 to 26 pages are free: they lie in 2 to 12 pieces, with a used page before or behind each.
+fn pieces(random: &mut Random) -> Vec<bool> {
+    let count = random.between(2, 12);
+    let mut lengths = vec![1; count as usize];
+    for _ in 0..random.below((25 - 2 * count).min(6)) {
+        let longer = random.below(count);
+        lengths[longer as usize] += 1;
+    }
+    let begins_free = random.once_in(2);
+    let mut free = vec![false; 2];
+    for length in lengths {
+        let used = if begins_free { length } else { 0 };
+        free.extend((0..=length).map(|place| place != used));
+    }
+    free.resize(free.len().max(16), false);
+    free
 }
 
 /// A volume with 224 names of one file, the least that takes them: they stand in 32 log pages. The
