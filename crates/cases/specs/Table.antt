@@ -1,4 +1,4 @@
--- Cases A to K of document 01, "Campsite examples", and eleven rows more, as rows of one table. A row is data: where it starts, what is
+-- Cases A to K of document 01, "Campsite examples", and twelve rows more, as rows of one table. A row is data: where it starts, what is
 -- called, what is expected.
 use Prim.Native.Nat.{ℕ, _+_, _%_}
 use mathlib.Core.List.{List, [], _∷_}
@@ -155,4 +155,10 @@ table =
     }
     -- Then there is no page for a byte more.
     ∷ record { step = calls 22 (write 1 0 (bytes 1)); answer = refuses 12; facts = [] }
+    -- Three pages have a run, and take it as before, though 5 and 6 are free.
+    ∷ record {
+      step = calls 20 (write 1 1024 (bytes 1025));
+      answer = fills 406;
+      facts = dataIs 1 (3 ∷ 7 ∷ 8 ∷ 9 ∷ 10 ∷ []) ∷ logIs 1 (4 ∷ []) ∷ freeIs 7 ∷ [];
+    }
     ∷ []

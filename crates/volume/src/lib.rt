@@ -80,8 +80,9 @@ pub fn rename(v: &[u8], old: &[u8], new: &[u8], list: &mut [u64]) -> Answer
     naming::rename(v, old, new, list)
 }
 
-// Writes bytes to a file from an offset on: fills the list with the store list. Answers Number with the count of words filled, 0 where
-// there are no bytes to write.
+// Writes bytes to a file from an offset on: fills the list with the store list. The data goes to the lowest run of free pages that is long
+// enough or, where there is none, to the lowest free pages. Answers Number with the count of words filled, 0 where there are no bytes to
+// write.
 // Refusals: ShortMemory, NoVolume, Damaged, JournalOpen, NotThere, LongWrite, PastTheEnd, NoSpace.
 // Example: where inode 1 is an empty file with a log page that has room for an entry, write(v, 1, 0, b"abcd", list) is Number(150), and
 // write(v, 1, 65533, b"abcd", list) is PastTheEnd.

@@ -185,10 +185,12 @@ pub fn rename(volume: &[u8], old: &[u8], new: &[u8], list: &mut [u64]) -> Answer
     with_names(exports::volume_rename, volume, old, new, list)
 }
 
-/// Write: fills a list that lays the bytes over the file's from the offset on, in fresh data pages.
+/// Write: fills a list that lays the bytes over the file's from the offset on, in fresh data pages: the lowest run of
+/// free pages that is long enough or, where there is none, the lowest free pages.
 ///
 /// Answers the count of words filled, 0 if there are no bytes. The refusals are 1 to 4 as for [`create`], 6 (not
-/// there), 8 (long write: over 4,096 bytes), 9 (past the end: offset and length over 65,536) and 12 (no space).
+/// there), 8 (long write: over 4,096 bytes), 9 (past the end: offset and length over 65,536) and 12 (no
+/// space: fewer free pages than data and log need).
 ///
 /// ```
 /// use calls::{carry_out, create, format, read, write, Refusal};
