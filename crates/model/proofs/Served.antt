@@ -20,7 +20,7 @@ use Rattle.model.proofs.Crash.Landing.{volume-parts, sizes-parts}
 use Rattle.model.proofs.State.Maps.{create-inode, new-inode}
 use Rattle.model.proofs.Frame.View.{root-valid}
 use Rattle.model.proofs.State.Bytes.{length-bytes}
-use Rattle.model.proofs.Calls.DataPages.{startAt, pages-from, pages-hold, pages-enough, Ascends, few-ascend, stretch-count}
+use Rattle.model.proofs.Calls.DataPages.{searchStart, pages-from, pages-hold, pages-enough, Ascends, few-ascend, stretch-count}
 use Rattle.model.proofs.Calls.Room.{free-bounds}
 use Rattle.model.proofs.Calls.Stored.{fresh-on}
 use Rattle.model.proofs.Calls.Actions.{one-room, only-entries, fresh-anew}
@@ -104,7 +104,7 @@ module _ (v : List ℕ) (a : isAccepted v ≡ true) (o : isOpen (word v) ≡ fal
       let c = x .count in
       let ds = lowestPages f P c in
       let long : length ds ≡ c = pages-enough f P bound c h in
-      let s = startAt f P bound c in
+      let s = searchStart f P bound c in
       let up : Ascends 1 ds = ascends-some s ds (rw (pages-from f P bound c) (few-ascend f (P - s) s c)) (λ p m. omega (arith, free-bounds u P N p (pages-hold f P bound c p m .0))) in
       let r = stretch-count ds (λ i. getD ds (i - x .file) 0) (x .file) up (λ t l. let q : x .file + t - x .file ≡ t = omega arith in rw q) in
       rw (length-append, length-map) (ap (λ n. length (x .entries) + n) (rw long at r))

@@ -25,8 +25,8 @@ run-few f (suc t) s (suc n) l h =
 -- f says which pages may be taken, all of them below P
 module _ (f : ℕ → Bool) (P : ℕ) (bound : (p : ℕ) → f p ≡ true → p < P) (n : ℕ) where
   -- the first page of the run, and page 0 where there is none
-  abbrev pub startAt : ℕ
-  startAt = orElse (lowestRun f P n) 0
+  abbrev pub searchStart : ℕ
+  searchStart = orElse (lowestRun f P n) 0
 
   run-from : (o : Option ℕ) → lowestRun f P n ≡ o → runOr n o (lowestFew f P 0 n) ≡ lowestFew f (P - orElse o 0) (orElse o 0) n
   unfolding lowestRun
@@ -37,18 +37,18 @@ module _ (f : ℕ → Bool) (P : ℕ) (bound : (p : ℕ) → f p ≡ true → p 
       (λ z. let b = bound (p + (n - 1)) (allBelow-at n (n - 1) (λ i. f (p + i)) h (omega arith)) in omega arith) in
       run-few f (P - p) p n l (λ i j. allBelow-at n i (λ i. f (p + i)) h j)
 
-  pub pages-from : lowestPages f P n ≡ lowestFew f (P - startAt) startAt n
+  pub pages-from : lowestPages f P n ≡ lowestFew f (P - searchStart) searchStart n
   unfolding lowestPages
   pages-from = run-from (lowestRun f P n) refl
 
   pub pages-hold : (x : ℕ) → has x (lowestPages f P n) ≡ true → (f x ≡ true) × (x < P)
-  pages-hold x h = let g = few-holds f (P - startAt) startAt n x (rw pages-from at h) .0 in (g, bound x g)
+  pages-hold x h = let g = few-holds f (P - searchStart) searchStart n x (rw pages-from at h) .0 in (g, bound x g)
 
   pub pages-apart : distinct (lowestPages f P n) ≡ true
-  pages-apart = rw pages-from (few-distinct f (P - startAt) startAt n)
+  pages-apart = rw pages-from (few-distinct f (P - searchStart) searchStart n)
 
   pub pages-few : length (lowestPages f P n) ≤ n
-  pages-few = rw pages-from (few-length f (P - startAt) startAt n)
+  pages-few = rw pages-from (few-length f (P - searchStart) searchStart n)
 
   -- those left
   pub pages-besides : sumBelow P (λ p. bit (besides f (lowestPages f P n) p)) + length (lowestPages f P n) ≡ sumBelow P (λ p. bit (f p))
