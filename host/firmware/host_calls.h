@@ -7,6 +7,9 @@
  *
  * The pairs of volume_gaps are flat, first page and length by turns: pairs_len words have room for pairs_len / 2 pairs. Where the stretches
  * of free pages are more, it answers -14, too many gaps.
+ *
+ * volume_create, volume_link, volume_write and volume_set_size answer -15, last page, where they would take the last free page: removing
+ * files or cleaning logs gives pages back.
  */
 #ifndef HOST_CALLS_H
 #define HOST_CALLS_H

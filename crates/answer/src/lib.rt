@@ -37,12 +37,14 @@ pub enum Answer {
     BadList,
     // 14: the stretches of free pages are more than the list of pairs holds.
     TooManyGaps,
+    // 15: the call would take the last free page, which it keeps.
+    LastPage,
 }
 
 // Answers the number of a refusal, by "What the screen says", and 0 of an answer that is none.
 // Example: refusal(Answer::Damaged) is 3, and refusal(Answer::Number(514)) is 0.
 pub fn refusal(answer: Answer) -> u64
-    ensures { λ r. ⌜ (r ≡ refusalOf (meaning answer)) × (r ≤ 14) ⌝ }
+    ensures { λ r. ⌜ (r ≡ refusalOf (meaning answer)) × (r ≤ 15) ⌝ }
 {
     match answer {
         Answer::Done => 0,
@@ -61,6 +63,7 @@ pub fn refusal(answer: Answer) -> u64
         Answer::NoSpace => 12,
         Answer::BadList => 13,
         Answer::TooManyGaps => 14,
+        Answer::LastPage => 15,
     }
 }
 

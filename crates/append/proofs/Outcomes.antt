@@ -7,7 +7,7 @@ use Rattle.model.specs.Accept.{isValid, free}
 use Rattle.model.specs.Stores.{Stores, oneWord, noWords, both, onlyIf}
 use Rattle.model.specs.Answer.{done}
 use Rattle.model.specs.Calls as calls
-use Rattle.model.specs.Calls.{Change, layPages, lowestPages, entriesOnly, dataPages, appended, oldPages, oldSlots, freshPages, freshLog, noRoom, prepared, newTail, ownChanges, pagesLeft, lacksRoom, allPrepared, allChanges, roomChecks, actionChecks, actionGroups}
+use Rattle.model.specs.Calls.{Change, layPages, lowestPages, entriesOnly, dataPages, appended, oldPages, oldSlots, freshPages, freshLog, pagesNeeded, prepared, newTail, ownChanges, pagesLeft, allNeeded, allPrepared, allChanges, spaceChecks, actionChecks, actionGroups}
 use Rattle.model.proofs.Tests.{by-lt}
 use Rattle.model.proofs.Frame.View.{root-valid}
 use Rattle.model.proofs.Calls.DataPages.{pages-few}
@@ -24,7 +24,7 @@ use Rattle.append.specs.Appended.{zeroed, alsoCommitted, firstCount, ask
 use Rattle.append.proofs.Volumes.{closed-fine}
 
 -- one log: it gets all entries
-pub one-log : (a : Append) (ws ds : List ℕ) → a .moved ≡ 0 → actionOf a ws ds ≡ plain (asked a ws ds ∷ []) (zeroed a) (alsoCommitted a)
+pub one-log : (a : Append) (ws ds : List ℕ) → a .moved ≡ 0 → actionOf a ws ds ≡ plain (a .keeps) (asked a ws ds ∷ []) (zeroed a) (alsoCommitted a)
 unfolding actionOf secondAsked
 one-log a ws ds e = rw (eq-eqb (a .moved) 0 e)
 
@@ -91,9 +91,9 @@ module _ (v : List ℕ) (k : ℕ) (b : Bool) (es : List (List ℕ)) (i c z : ℕ
   abbrev with-words : (ℕ → ℕ) → calls.Append
   with-words w = record { log = k; anew = b; entries = es; file = i; count = c; words = w; size = z }
 
-  pub outcome-words : (s : Stores) (cs : List Change) → outcome v (plain (with-words g ∷ []) s cs) ≡ outcome v (plain (with-words h ∷ []) s cs)
-  unfolding outcome actionChecks actionGroups roomChecks lacksRoom allPrepared allChanges dataPages appended oldPages oldSlots freshPages freshLog noRoom prepared newTail ownChanges pagesLeft
-  outcome-words s cs =
+  pub outcome-words : (x : Bool) (s : Stores) (cs : List Change) → outcome v (plain x (with-words g ∷ []) s cs) ≡ outcome v (plain x (with-words h ∷ []) s cs)
+  unfolding outcome actionChecks actionGroups spaceChecks allNeeded allPrepared allChanges dataPages appended oldPages oldSlots freshPages freshLog pagesNeeded prepared newTail ownChanges pagesLeft
+  outcome-words x s cs =
       let u = word v in
       let f = free u (u 0) (u 1) in
       rw (lay-same (lowestPages f (u 0) c) c g h (pages-few f (u 0) (λ p h. free-bounds u (u 0) (u 1) p h .1) c) same)

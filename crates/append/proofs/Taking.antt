@@ -1,9 +1,9 @@
 -- The pages of two logs: the lowest ones left for the first, and behind them those for the second.
-use Rattle.model.proofs.Prelude.{ℕ, zero, suc, _+_, _≤_, _<_, _≡_, refl, sym, fun-ext, Bool, false, and-true, _||_, List, [], _∷_, _++_, arith, zero-add, ltb, length, length-append, eq-eqb, ne-eqb, lt-ltb, le-ltb}
+use Rattle.model.proofs.Prelude.{ℕ, zero, suc, _+_, _≤_, _<_, _≡_, refl, sym, fun-ext, Bool, false, and-true, List, [], _∷_, _++_, arith, zero-add, eq-eqb, ne-eqb}
 use Rattle.model.specs.Lists.{lowestFew, has}
 use Rattle.model.specs.Calls.{besides}
-use Rattle.model.proofs.Tests.{by-bool, by-lt}
-use Rattle.model.proofs.Lists.{few-none, few-length}
+use Rattle.model.proofs.Tests.{by-bool}
+use Rattle.model.proofs.Lists.{few-none}
 
 -- The lowest a + n are the lowest a and then the lowest n of the others.
 
@@ -44,16 +44,3 @@ few-split f (suc t) i (suc a) n =
     let xs = lowestFew f t (i + 1) (suc a) in
     let w : besides f xs i ≡ false = rw (besides, e) in
     rw (k, e, few-beyond (besides f xs) t i n w, ← few-split f t (i + 1) (suc a) n, k))
-
--- so a + n are lacking exactly where the first or the others are
-pub few-both : (f : ℕ → Bool) (P a n : ℕ) → ltb (length (lowestFew f P 0 (a + n))) (a + n)
-    ≡ (ltb (length (lowestFew f P 0 a)) a || ltb (length (lowestFew (besides f (lowestFew f P 0 a)) P 0 n)) n)
-few-both f P a n =
-    let x = length (lowestFew f P 0 a) in
-    let y = length (lowestFew (besides f (lowestFew f P 0 a)) P 0 n) in
-    let e : length (lowestFew f P 0 (a + n)) ≡ x + y = rw (few-split f P 0 a n, length-append) in
-    let g = few-length f P 0 a in
-    let h = few-length (besides f (lowestFew f P 0 a)) P 0 n in
-    by-lt x a (λ l. rw (e, lt-ltb x a l, lt-ltb (x + y) (a + n) (omega arith)))
-    (λ l. by-lt y n (λ m. rw (e, le-ltb x a l, lt-ltb y n m, lt-ltb (x + y) (a + n) (omega arith)))
-    (λ m. rw (e, le-ltb x a l, le-ltb y n m, le-ltb (x + y) (a + n) (omega arith))))

@@ -1,22 +1,23 @@
--- The whole append: where there are pages enough, the list is that of the definitions' action, and where not, the answer is 12.
-use Rattle.model.proofs.Prelude.{ℕ, _+_, _*_, _-_, _/_, _≤_, _<_, _≡_, refl, sym, ap, _∙_, Bool, true, false, cond, not, _||_, List, [], _∷_, _++_, ⊎-elim, arith, add-zero, sub-zero, ltb, eqb, length, getD, take, drop, replicate, length-append, length-map, length-replicate, length-take-le, length-drop, take-all, eq-eqb, ne-eqb, le-ltb, ltb-false, not-false}
-use Rattle.model.specs.Lists.{lowestFew, indexOf, has}
+-- The whole append: where it has room, the list is that of the definitions' action, and where not, the answer is 12 or 15.
+use Rattle.model.proofs.Prelude.{ℕ, _+_, _*_, _-_, _/_, _≤_, _<_, _≡_, refl, sym, ap, _∙_, Bool, true, false, cond, not, List, [], _∷_, _++_, ⊎-elim, some, arith, add-zero, zero-add, sub-zero, ltb, eqb, length, getD, take, drop, replicate, length-append, length-map, length-replicate, length-take-le, length-drop, take-all, eq-eqb, ne-eqb, lt-ltb, ltb-true, ltb-false, not-false}
+use Rattle.model.specs.Lists.{bit, sumBelow, lowestFew, indexOf, has}
 use Rattle.model.specs.Words.{Mem, word}
 use Rattle.model.specs.Layout.{headWord, tailWord}
 use Rattle.model.specs.Stretches.{stretches}
-use Rattle.model.specs.Accept.{isValid, free}
-use Rattle.inodes.specs.Judged.{Closed}
+use Rattle.model.specs.Accept.{isValid, free, freeCount}
+use Rattle.model.specs.Answer.{done, firstRefusal, noSpace}
+use Rattle.inodes.specs.Judged.{unmarkedCount, Closed}
 use Rattle.model.specs.Stores.{Stores, both, onlyIf, storeList}
 use Rattle.model.specs.Calls as calls
-use Rattle.model.specs.Calls.{layPages, stretchEntries, commit, entriesOnly, besides, lowestPages, dataPages, appended, freshPages, freshLog, noRoom, prepared, pagesLeft, lacksRoom, allPrepared, allChanges, roomChecks, actionChecks, actionGroups}
-use Rattle.model.proofs.Tests.{by-bool, by-eq, and-left, no as never, not-not, or-false}
-use Rattle.model.proofs.Lists.{few-length, few-holds, has-append, has-cons, has-getD}
+use Rattle.model.specs.Calls.{layPages, stretchEntries, commit, entriesOnly, besides, lowestPages, dataPages, appended, freshPages, freshLog, pagesNeeded, prepared, pagesLeft, allNeeded, allPrepared, allChanges, roomChecks, spaceChecks, actionChecks, actionGroups}
+use Rattle.model.proofs.Tests.{by-bool, by-eq, by-lt, and-left, no as never, not-not}
+use Rattle.model.proofs.Lists.{few-holds, has-append, has-cons, has-getD}
 use Rattle.model.proofs.Log.Live.{lay-in}
 use Rattle.model.proofs.State.Stretches.{stretches-some}
 use Rattle.model.proofs.Crash.Stores.{Only, only-word, only-both, only-if}
-use Rattle.model.proofs.Calls.DataPages.{pages-hold, pages-few, room-parts}
+use Rattle.model.proofs.Calls.DataPages.{pages-hold, pages-few, pages-enough, few-enough, enough-log, left-count}
 use Rattle.model.proofs.Calls.Room.{free-bounds, pages-in}
-use Rattle.model.proofs.Calls.Actions.{both-none, one-room, one-prepared, one-changes, no-data, only-entries}
+use Rattle.model.proofs.Calls.Actions.{both-none, one-needed, one-prepared, one-changes, no-data, only-entries}
 use Rattle.layout.specs.declared.Sizes.{Sizes}
 use Rattle.stores.specs.Emitted.{Emitted}
 use Rattle.stores.specs.Added.{Added, element}
@@ -26,15 +27,20 @@ use Rattle.entries.specs.Table.{entriesOf, Holds, dataPage}
 use Rattle.entries.proofs.Entries.{length-entries, entries-take, entries-drop}
 use Rattle.space.specs.Space.{ArePages, PagesTaken}
 use Rattle.space.proofs.Taken.{length-marked}
+use Rattle.answer.specs.Meaning.{meaning, numbered}
 use Rattle.answer.specs.Comes.{Comes}
+use Rattle.answer.specs.declared.Answer.{Answer}
 use Rattle.answer.specs.declared.Answer.the-variants.{Number, NoSpace}
+use Rattle.answer.proofs.Codes.{NoNumber}
+use Rattle.answer.proofs.Checked.{clash, same-refusal, none-refuses}
+use Rattle.answer.proofs.Coming.{comes-told, comes-as}
 use Rattle.laying.specs.declared.Laid.{Laid}
 use Rattle.laying.specs.Laying.{pageOf, slotsAt, neededAt, startAt, mayTake, freshFrom, pagesBehind, toLay, tailBehind, headBehind, Layable, LogLaid}
 use Rattle.laying.proofs.Steps.{no-need}
 use Rattle.append.specs.declared.Append.{Append}
 use Rattle.append.specs.Appended.{oldTail, headOf, restOf, secondStores, SecondLaid, zeroed, pairsOf, alsoCommitted, committing, firstCount, asked, secondAsked, actionOf, outcome, Ready}
 use Rattle.append.proofs.Outcomes.{comes-words}
-use Rattle.append.proofs.Taking.{besides-none, few-both}
+use Rattle.append.proofs.Taking.{besides-none}
 use Rattle.append.proofs.Parts.{pairs-long, put-words, put-changes, committing-below, some-committed}
 use Rattle.append.proofs.Volumes.{closed-bytes, closed-sizes, closed-enqueue, closed-free, old-fine, old-apart}
 use Rattle.append.proofs.Logs.{fresh-is, log-prepared, log-changes, log-left}
@@ -130,9 +136,11 @@ module _ (v b k : List ℕ) (s : Sizes) (c : Closed v b) (ep : s .pages ≡ word
       omega arith)
       (has-append (w / 64) (pageOf (g .tail)) (freshFrom k s g d) (lay-in _ (slotsAt (g .tail)) es w z e))
 
--- The append of a, ws and ds to the volume v: t and t₂ are the tails of its logs. en, ps and the marks k are what `take_pages` answered and left.
+-- The append of a, ws and ds to the volume v: t and t₂ are the tails of its logs, F is the count of free pages. en, ps and the marks k are what
+-- `take_pages` answered and left.
 module _ (v b : List ℕ) (a : Append) (ws ds l : List ℕ) (y : Ready v b a ws ds l) (s : Sizes) (ep : s .pages ≡ word v 0) (ei : s .inodes ≡ word v 1)
-    (t t₂ : ℕ) (et : t ≡ oldTail (word v) (a .anew) (a .log)) (et₂ : t₂ ≡ oldTail (word v) false (a .second)) (en : Bool) (os ps k : List ℕ)
+    (t t₂ : ℕ) (et : t ≡ oldTail (word v) (a .anew) (a .log)) (et₂ : t₂ ≡ oldTail (word v) false (a .second))
+    (F : ℕ) (eF : F ≡ unmarkedCount b (s .pages) (s .inodes)) (en : Bool) (os ps k : List ℕ)
     (x : PagesTaken b (s .pages) (s .inodes) (length ds / 64) os en ps k) where
   -- how many entries the first log gets of the table
   abbrev n : ℕ
@@ -191,18 +199,18 @@ module _ (v b : List ℕ) (a : Append) (ws ds l : List ℕ) (y : Ready v b a ws 
   data-lacks : ltb (length D) c ≡ not en
   data-lacks = rw (x .answer, data-is) (sym (not-not (ltb (length D) c)))
 
-  -- refusal 12 of the first append
-  first-lacks : noRoom u P f A ≡ (ltb (length D) c || ltb (length (freshLog u P f A)) (freshPages u P f A))
-  unfolding asked
-  first-lacks = room-parts u P f A bound
+  free-count : freeCount u P N ≡ F
+  unfolding freeCount unmarkedCount
+  free-count = sym (eF ∙ ap (λ (g : ℕ → Bool). sumBelow (s .pages) (λ p. bit (g p))) free-is ∙ rw ep)
 
-  refused : lacksRoom u P f (A ∷ S) ≡ true → Comes (outcome v (actionOf a ws ds)) l NoSpace l
-  unfolding outcome actionOf actionChecks roomChecks
-  refused e = rw e (record { answer = refl; list = refl })
-
+  -- too few pages for the data are too few in all
   pub refuses-data : not en ≡ true → Comes (outcome v (actionOf a ws ds)) l NoSpace l
-  unfolding lacksRoom
-  refuses-data e = refused (rw (first-lacks, data-lacks, e))
+  unfolding outcome actionOf actionChecks spaceChecks roomChecks allNeeded pagesNeeded asked dataPages freeCount
+  refuses-data e =
+      let few-data = ltb-true (length D) c (data-lacks ∙ e) in
+      let lacking : freeCount u P N < c + freshPages u P f A + allNeeded u P f₂ S =
+      by-lt (freeCount u P N) c (λ h. omega arith) (λ h. absurd (omega (arith, few-data, pages-enough f P bound c h))) in
+      rw (lt-ltb _ _ lacking) (record { answer = refl; list = refl })
 
   -- its pages, as the code takes them from the array, and their entries
   pub pages-long : length os ≡ 9 → c ≡ length (take c ps)
@@ -215,12 +223,12 @@ module _ (v b : List ℕ) (a : Append) (ws ds l : List ℕ) (y : Ready v b a ws 
   table-asks z i j = let g = y .nine in let h = pages-long i in (omega arith, omega arith, y .file)
 
   -- The data has its pages. Of the table xs₀ the first `more` entries are those of its stretches, q₁ and q₂ are the pages that the logs need, and
-  -- en₂ is whether so many are left.
+  -- j is what `room` answered of all the pages.
   module _ (some-data : not en ≡ false) (more : ℕ) (os₂ xs₀ : List ℕ)
       (held : Holds os₂ xs₀ more (stretchEntries (a .size) (stretches (dataPage (take (length ds / 64) ps) (a .file)) (length (take (length ds / 64) ps)) (a .file))))
       (few-more : more ≤ length (take (length ds / 64) ps)) (table : length os₂ ≡ 72) (q₁ q₂ : ℕ)
-      (e₁ : q₁ ≡ neededAt t (length ws / 8 - a .moved + more)) (e₂ : q₂ ≡ neededAt t₂ (a .moved)) (en₂ : Bool)
-      (left-answer : en₂ ≡ not (ltb (length (lowestFew (mayTake k s) (s .pages) 0 (q₁ + q₂))) (q₁ + q₂))) where
+      (e₁ : q₁ ≡ neededAt t (length ws / 8 - a .moved + more)) (e₂ : q₂ ≡ neededAt t₂ (a .moved)) (j : Answer)
+      (judged : meaning j ≡ numbered (firstRefusal (roomChecks (a .keeps) F (length ds / 64 + q₁ + q₂)) (done (length ds / 64 + q₁ + q₂)))) where
     abbrev m : ℕ
     m = n + more
 
@@ -269,50 +277,69 @@ module _ (v b : List ℕ) (a : Append) (ws ds l : List ℕ) (y : Ready v b a ws 
     second-may : (g : ℕ → Bool) → besides g (dataPages u P g B) ≡ g
     second-may g = rw (no-data u P g false (a .second) es₂) (besides-none g)
 
-    second-lacks : (g : ℕ → Bool) → ((p : ℕ) → g p ≡ true → p < P) → lacksRoom u P g S ≡ ltb (length (lowestFew g P 0 q₂)) q₂
-    unfolding secondAsked lacksRoom freshLog entriesOnly
-    second-lacks g low =
+    second-needs : (g : ℕ → Bool) → allNeeded u P g S ≡ q₂
+    unfolding secondAsked allNeeded pagesNeeded entriesOnly
+    second-needs g =
         by-eq (a .moved) 0
         (λ z.
         let o : q₂ ≡ 0 = e₂ ∙ rw z (no-need t₂ (rw et₂ (old-fine v b (y .volume) false (a .second) (y .second) (y .second-valid) .0))) in
-        rw (eq-eqb (a .moved) 0 z, o, le-ltb (length (lowestFew g P 0 0)) 0 (omega arith)))
+        rw (eq-eqb (a .moved) 0 z, o))
         (λ z.
         let i : freshPages u P g B ≡ q₂ = fresh-is u P g B ∙ rw (second-long g, e₂, et₂) in
-        let d = no-data u P g false (a .second) es₂ in
-        rw (ne-eqb (a .moved) 0 z) (one-room u P g B ∙ room-parts u P g B low ∙ rw (i, d, besides-none g)))
-
-    left-below : (p : ℕ) → f₂ p ≡ true → p < P
-    unfolding pagesLeft besides
-    left-below p h = bound p (and-left _ _ (and-left _ _ h))
+        rw (ne-eqb (a .moved) 0 z) (one-needed u P g B ∙ rw i (zero-add q₂)))
 
     may-is : mayTake k s ≡ may
     may-is = rw (x .left data-some, data-is, free-is)
 
-    lacks : lacksRoom u P f (A ∷ S) ≡ not en₂
-    unfolding lacksRoom pagesLeft
-    lacks =
-        rw (first-lacks, data-lacks, some-data, second-lacks f₂ left-below, fresh-need, fresh-log)
-        (sym (few-both may P q₁ q₂) ∙ sym (rw (left-answer, may-is, ep) (not-not (ltb (length (lowestFew may P 0 (q₁ + q₂))) (q₁ + q₂)))))
+    -- all the pages that are needed
+    first-needs : pagesNeeded u P f A ≡ c + q₁
+    unfolding pagesNeeded asked
+    first-needs = rw fresh-need
 
-    pub refuses-log : not en₂ ≡ true → Comes (outcome v (actionOf a ws ds)) l NoSpace l
-    refuses-log e = refused (lacks ∙ e)
+    needs-are : allNeeded u P f (A ∷ S) ≡ c + q₁ + q₂
+    unfolding allNeeded
+    needs-are = rw (first-needs, second-needs f₂)
 
-    module _ (no : not en₂ ≡ false) where
+    abbrev L : List ℕ
+    L = storeList (64 * P) (actionGroups u P N (actionOf a ws ds))
+
+    outcome-is : outcome v (actionOf a ws ds) ≡ firstRefusal (roomChecks (a .keeps) F (c + q₁ + q₂)) (done L)
+    unfolding outcome actionOf actionChecks spaceChecks
+    outcome-is = rw (free-count, needs-are)
+
+    pub refuses-log : NoNumber j → Comes (outcome v (actionOf a ws ds)) l j l
+    refuses-log o =
+        let cs = roomChecks (a .keeps) F (c + q₁ + q₂) in
+        comes-as _ (firstRefusal cs (done L)) l j l outcome-is
+        (comes-told (firstRefusal cs (done L)) l j o (same-refusal j cs _ judged (λ (w : List ℕ). some (length w)) (done L) o))
+
+    module _ (n₀ : ℕ) (is-number : j ≡ Number n₀) where
+      no-refusal : outcome v (actionOf a ws ds) ≡ done L
+      no-refusal = outcome-is ∙ none-refuses (roomChecks (a .keeps) F (c + q₁ + q₂)) _ n₀ (rw is-number at judged) (done L)
+
+      enough : c + q₁ + q₂ ≤ F
+      unfolding roomChecks
+      enough =
+          by-lt F (c + q₁ + q₂) (λ h. clash noSpace (some n₀) (sym (rw (is-number, lt-ltb F (c + q₁ + q₂) h) at judged))) (λ h. h)
+
       -- both logs have their pages
-      none-lack : (ltb (length (lowestFew may P 0 q₁)) q₁ ≡ false) × (ltb (length (lowestFew (besides may (lowestFew may P 0 q₁)) P 0 q₂)) q₂ ≡ false)
-      none-lack =
-          let h : ltb (length (lowestFew may P 0 (q₁ + q₂))) (q₁ + q₂) ≡ not en₂ = sym (rw (left-answer, may-is, ep) (not-not (ltb (length (lowestFew may P 0 (q₁ + q₂))) (q₁ + q₂)))) in
-          or-false _ _ (sym (few-both may P q₁ q₂) ∙ h ∙ no)
+      abbrev all-free : ℕ
+      all-free = sumBelow P (λ p. bit (f p))
+
+      all-is : all-free ≡ F
+      unfolding freeCount
+      all-is = free-count
+
+      first-room : pagesNeeded u P f A ≤ all-free
+      first-room = rw (first-needs, all-is) (omega (arith, enough))
 
       enough-first : length (lowestFew may P 0 q₁) ≡ q₁
-      enough-first = let i = few-length may P 0 q₁ in omega (arith, ltb-false (length (lowestFew may P 0 q₁)) q₁ (none-lack .0))
+      unfolding asked
+      enough-first = rw (fresh-need, fresh-log) at (enough-log u P f A bound first-room)
 
       enough-second : length (lowestFew f₂ P 0 q₂) ≡ q₂
-      unfolding pagesLeft
       enough-second =
-          let ls = lowestFew (besides may (lowestFew may P 0 q₁)) P 0 q₂ in
-          let i = few-length (besides may (lowestFew may P 0 q₁)) P 0 q₂ in
-          rw fresh-log (omega (arith, ltb-false (length ls) q₂ (none-lack .1)))
+          let left = left-count u P f A bound first-room in few-enough f₂ P q₂ (omega (arith, first-needs, all-is, enough))
 
       may-free : (p : ℕ) → mayTake k s p ≡ true → f p ≡ true
       unfolding besides
@@ -515,7 +542,7 @@ module _ (v b : List ℕ) (a : Append) (ws ds l : List ℕ) (y : Ready v b a ws 
           → SecondLaid k s m₂ (startAt e t₂ (i .from)) (a .second) w₃ h m₃ → Added m₃ 0 (h .end) (zeroed a) e₃ m₄
           → Emitted c₀ 0 (pairsOf (committing a (i .head) (i .tail) (h .tail))) zs cs → 8 ≤ length c₀ → zs ≤ 8
           → Committed v m₄ e₃ (changesOf (take zs cs)) z m₅ → z ≤ length m₄ → Comes (outcome v (actionOf a ws ds)) l (Number z) m₅
-      unfolding outcome actionOf actionChecks actionGroups roomChecks allPrepared allChanges committing firstCount asked
+      unfolding actionOf actionGroups allPrepared allChanges committing firstCount asked
       fills i h e e₃ z zs c₀ cs m₁ m₂ m₃ m₄ m₅ x₁ x₂₀ x₃ x₄ x₅ room most x₆ x₇ =
           let W : length v / 8 ≡ 64 * P = let q = closed-bytes v b (y .volume) in omega arith in
           let o = split in
@@ -540,5 +567,4 @@ module _ (v b : List ℕ) (a : Append) (ws ds l : List ℕ) (y : Ready v b a ws 
           ≡ storeList (64 * P) (commit u (both (allPrepared u P f (A ∷ S)) (zeroed a)) (allChanges u P f (A ∷ S) ++ alsoCommitted a))
           = rw (stores, changes, put-changes c₀ cs zs _ x₅ room most) in
           let done-list = rw gs at list in
-          let ok : lacksRoom u P f (A ∷ S) ≡ false = lacks ∙ no in
-          rw ok (comes-words done-list (omega (arith, x₇, q .long)))
+          comes-as _ _ l (Number z) m₅ no-refusal (comes-words done-list (omega (arith, x₇, q .long)))

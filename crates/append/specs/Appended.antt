@@ -87,13 +87,13 @@ unfoldable pub secondAsked : Append → List ℕ → List calls.Append
 secondAsked a ws =
     cond (not (eqb (a .moved) 0)) (entriesOnly false (a .second) (entriesOf ws (8 * firstCount a ws) (a .moved)) ∷ []) []
 
--- an action that checks nothing but room
-abbrev pub plain : List calls.Append → Stores → List Change → Action
-plain xs s cs = record { always = []; unchanged = false; changing = []; appends = xs; further = s; changes = cs }
+-- an action that checks nothing but room, and keeps the last free page or not
+abbrev pub plain : Bool → List calls.Append → Stores → List Change → Action
+plain b xs s cs = record { always = []; unchanged = false; changing = []; keeps = b; appends = xs; further = s; changes = cs }
 
 -- all that an append does
 unfoldable pub actionOf : Append → List ℕ → List ℕ → Action
-actionOf a ws ds = plain (asked a ws ds ∷ secondAsked a ws) (zeroed a) (alsoCommitted a)
+actionOf a ws ds = plain (a .keeps) (asked a ws ds ∷ secondAsked a ws) (zeroed a) (alsoCommitted a)
 
 -- what an action on the volume v comes to
 unfoldable pub outcome : List ℕ → Action → Answer (List ℕ)

@@ -1,4 +1,4 @@
-// One append, whole: it takes the pages, fills the first group and commits, or answers that there are not enough pages. v is the volume,
+// One append, whole: it takes the pages, fills the first group and commits, or answers that it has no room. v is the volume,
 // which is accepted and whose journal is closed; marks has a byte for each page, 0 where the page is not in use.
 ghost use mathlib.Core.Path.{_≡_};
 ghost use mathlib.Core.Bool.{cond};
@@ -7,10 +7,12 @@ ghost use Prim.Native.Nat.{_+_, _*_, _/_, _≤_, _<_, _^_};
 ghost use lib.ListN.{length};
 ghost use Rattle.model.specs.Words.{word};
 ghost use Rattle.model.specs.Layout.{tailWord};
-ghost use Rattle.model.specs.Calls.{layPages};
+ghost use Rattle.model.specs.Answer.{done, firstRefusal};
+ghost use Rattle.model.specs.Calls.{layPages, roomChecks};
 ghost use Rattle.stores.specs.Emitted.{Emitted};
 ghost use Rattle.stores.specs.Added.{Added, element};
 ghost use Rattle.space.specs.Space.{ArePages};
+ghost use Rattle.answer.specs.Meaning.{meaning, numbered};
 ghost use Rattle.answer.specs.Comes.{Comes};
 ghost use Rattle.laying.specs.Laying.{Layable};
 ghost use Rattle.append.specs.Appended.{oldTail, headOf, restOf, SecondLaid, zeroed, pairsOf, committing, actionOf, outcome, Ready};
@@ -21,7 +23,7 @@ use layout::Sizes;
 // What is appended to the log of inode `log`, or is the whole of it where the log is written `anew`. Entries and data are given beside
 // it; the last `moved` entries go to the log of inode `second` instead, which goes on: a valid inode, also where none are moved. The data
 // are file pages from page `file` on, of a file that has `size` bytes then. Together with the tails the valid word of inode `other`, if
-// that is not 0, becomes `valid`: 1 makes a file that is empty, 0 lets it go.
+// that is not 0, becomes `valid`: 1 makes a file that is empty, 0 lets it go. The last free page is not taken where it `keeps` that page.
 pub struct Append {
     pub log: usize,
     pub anew: bool,
@@ -31,6 +33,7 @@ pub struct Append {
     pub moved: usize,
     pub other: usize,
     pub valid: u64,
+    pub keeps: bool,
 }
 
 // Answers the tail that the log of inode k goes on with; 0 where it is written anew.
@@ -179,8 +182,28 @@ fn to_commit(words: &mut [u64], a: Append, g: Laid, second_tail: usize) -> usize
     put_change(words, d, has_other, layout::valid_word(a.other), a.valid)
 }
 
+// Answers Number with the count of pages that a call needs, if it has room for them; NoSpace where fewer are free, and LastPage where it
+// would take the last one and keeps that page.
+// Example: room(true, 5, 4) is Number(4), room(true, 5, 5) LastPage, room(false, 5, 5) Number(5), room(true, 5, 6) NoSpace, and
+// room(true, 0, 0) Number(0).
+fn room(keeps: bool, free: usize, needed: usize) -> Answer
+    ensures { λ r. ⌜ meaning r ≡ numbered (firstRefusal (roomChecks keeps free needed) (done needed)) ⌝ }
+{
+    if free < needed {
+        return Answer::NoSpace;
+    }
+    if keeps {
+        if needed != 0 {
+            if needed == free {
+                return Answer::LastPage;
+            }
+        }
+    }
+    Answer::Number(needed as u64)
+}
+
 // Makes an append: takes its pages, fills the list with the first group and what commits it, and answers Number with the count of words
-// filled; NoSpace where there are not enough pages, and then leaves the list. The entries have eight words each, the data 64 words for
+// filled; NoSpace or LastPage where it has no room, and then leaves the list. The entries have eight words each, the data 64 words for
 // each page, of which there are nine at most: a write of 4,096 bytes covers no more.
 // Example: of one entry on a page that has room for it, and no data, the list has 22 words: eight pairs and a fence, the tail and a fence.
 pub fn make(
@@ -200,6 +223,7 @@ pub fn make(
     let second_tail = old_tail(v, false, a.second);
     let n = entries.len() / layout::ENTRY_WORDS - a.moved;
     let count = data.len() / layout::PAGE_WORDS;
+    let free = inodes::free_count(marks, sizes.pages, sizes.inodes) as usize;
     let mut pages = [0u64; 9];
     if !space::take_pages(marks, sizes, count, &mut pages) {
         return Answer::NoSpace;
@@ -208,9 +232,10 @@ pub fn make(
     let more = entries::put_stretches(&pages[..count], a.file, a.size, &mut writes);
     let needed = laying::pages_needed(tail, n + more);
     let second_needed = laying::pages_needed(second_tail, a.moved);
-    if !space::has_free(marks, sizes, needed + second_needed) {
-        return Answer::NoSpace;
-    }
+    let judged = room(a.keeps, free, count + needed + second_needed);
+    let Answer::Number(_) = judged else {
+        return judged;
+    };
     let m = layout::ENTRY_WORDS * more;
     let split = layout::ENTRY_WORDS * n;
     let begin = Laid {

@@ -106,6 +106,6 @@ module _ {Volume : Type 0} (H : Holding Volume) where
       let rest = allHold rs (v ∷ vs) in
       cond (answerIs a (r .answer) && all (factHolds (H .len v) (H .mem v)) (r .facts)) rest false
 
--- The claim: cases A to K come out, every number of them, from the definition of format on.
+-- The claim: cases A to K and M come out, every number of them, from the definition of format on.
 abbrev pub Cases : Type 0
 Cases = allHold asBytes table [] ≡ true

@@ -1,5 +1,5 @@
--- Cases A to K of document 01, "Campsite examples", and twelve rows more, as rows of one table. A row is data: where it starts, what is
--- called, what is expected.
+-- Cases A to K and M of document 01, "Campsite examples", and nineteen rows more, as rows of one table. A row is data: where it starts,
+-- what is called, what is expected.
 use Prim.Native.Nat.{ℕ, _+_, _%_}
 use mathlib.Core.List.{List, [], _∷_}
 use Rattle.model.specs.Lists.{valuesFrom}
@@ -62,6 +62,9 @@ J = 10
 abbrev linked : ℕ
 linked = 13
 
+abbrev M : ℕ
+M = 32
+
 -- "A1"
 abbrev A1 : List ℕ
 A1 = 65 ∷ 49 ∷ []
@@ -69,6 +72,14 @@ A1 = 65 ∷ 49 ∷ []
 -- "A2"
 abbrev A2 : List ℕ
 A2 = 65 ∷ 50 ∷ []
+
+-- "A3"
+abbrev A3 : List ℕ
+A3 = 65 ∷ 51 ∷ []
+
+-- "A4"
+abbrev A4 : List ℕ
+A4 = 65 ∷ 52 ∷ []
 
 -- n bytes to write: 1, 2, 3 and so on up to 255, then again. Document 01 leaves their values open.
 abbrev bytes : ℕ → List ℕ
@@ -143,22 +154,37 @@ table =
     ∷ record { step = calls 18 (write 1 512 (bytes 1)); answer = isDone; facts = dataIs 1 (3 ∷ 7 ∷ []) ∷ [] }
     ∷ record { step = calls 19 (unlink A2); answer = isDone; facts = freeIs 10 ∷ [] }
     ∷ record { step = calls 20 (create A2); answer = isDone; facts = [] }
-    -- Nine pages have no run: the lowest nine are taken, with an entry for 5 and 6 and one for 8 to 14, and page 15 is left for the log.
+    -- Nine pages have no run: the lowest nine are taken, with an entry for 5 and 6 and one for 8 to 14, and page 15 is left.
     ∷ record {
-      step = calls 21 (write 2 1 (bytes 4096));
-      answer = fills 1192;
+      step = calls 21 (write 1 1025 (bytes 4096));
+      answer = fills 1190;
       facts =
-          dataIs 2 (5 ∷ 6 ∷ 8 ∷ 9 ∷ 10 ∷ 11 ∷ 12 ∷ 13 ∷ 14 ∷ []) ∷ logIs 2 (15 ∷ [])
-          ∷ wordIs 961 0 ∷ wordIs 962 5 ∷ wordIs 963 2 ∷ wordIs 964 4097
-          ∷ wordIs 969 2 ∷ wordIs 970 8 ∷ wordIs 971 7 ∷ wordIs 972 4097
-          ∷ wordIs 82 7808 ∷ sizeIs 2 4097 ∷ bytesAre 2 1023 (3 ∷ 4 ∷ 5 ∷ []) ∷ freeIs 0 ∷ [];
+          dataIs 1 (3 ∷ 7 ∷ 5 ∷ 6 ∷ 8 ∷ 9 ∷ 10 ∷ 11 ∷ 12 ∷ 13 ∷ 14 ∷ []) ∷ logIs 1 (4 ∷ [])
+          ∷ wordIs 273 2 ∷ wordIs 274 5 ∷ wordIs 275 2 ∷ wordIs 276 5121
+          ∷ wordIs 281 4 ∷ wordIs 282 8 ∷ wordIs 283 7 ∷ wordIs 284 5121
+          ∷ wordIs 74 2304 ∷ sizeIs 1 5121 ∷ bytesAre 1 2047 (3 ∷ 4 ∷ 5 ∷ []) ∷ freeIs 1 ∷ [];
     }
-    -- Then there is no page for a byte more.
-    ∷ record { step = calls 22 (write 1 0 (bytes 1)); answer = refuses 12; facts = [] }
+    -- Then two pages for a byte of a file that has no log are one too many.
+    ∷ record { step = calls 22 (write 2 0 (bytes 1)); answer = refuses 12; facts = [] }
     -- Three pages have a run, and take it as before, though 5 and 6 are free.
     ∷ record {
       step = calls 20 (write 1 1024 (bytes 1025));
       answer = fills 406;
       facts = dataIs 1 (3 ∷ 7 ∷ 8 ∷ 9 ∷ 10 ∷ []) ∷ logIs 1 (4 ∷ []) ∷ freeIs 7 ∷ [];
     }
+    -- Document 02, order 4. All ten free pages are not taken, nor the last one for a page that is let go.
+    ∷ record { step = calls 21 (write 2 1 (bytes 4096)); answer = refuses 15; facts = [] }
+    ∷ record { step = calls 22 (write 1 0 (bytes 1)); answer = refuses 15; facts = [] }
+    -- The directory's page has four entries: two more and one more have room on it.
+    ∷ record { step = calls 22 (rename A1 A3); answer = fills 38; facts = freeIs 1 ∷ [] }
+    ∷ record { step = calls 27 (link A2 A1); answer = fills 22; facts = wordIs 66 1472 ∷ freeIs 1 ∷ [] }
+    -- Now a name more wants the last page and does not get it, and a name less does.
+    ∷ record { step = calls 28 (create A4); answer = refuses 15; facts = [] }
+    ∷ record { step = calls 28 (unlink A1); answer = fills 24; facts = logIs 0 (2 ∷ 15 ∷ []) ∷ freeIs 0 ∷ [] }
+    -- With no free page a name more that takes none is made.
+    ∷ record { step = calls 30 (link A2 A1); answer = fills 22; facts = freeIs 0 ∷ [] }
+    -- M, with the number that order 4 gives it
+    ∷ record { step = calls B (write 1 0 (bytes 4096)); answer = isDone; facts = freeIs 4 ∷ [] }
+    ∷ record { step = calls M (write 1 4096 (bytes 1537)); answer = refuses 15; facts = [] }
+    ∷ record { step = calls M (write 1 4096 (bytes 2049)); answer = refuses 12; facts = [] }
     ∷ []

@@ -1,5 +1,5 @@
 -- For the calls by name: the directory's names are those of the table, so that the checks are the model's, and refusal 12 is what is left.
-use Rattle.model.proofs.Prelude.{ℕ, _≡_, refl, cond, List, [], _++_, length, take}
+use Rattle.model.proofs.Prelude.{ℕ, _≡_, refl, true, false, cond, List, [], _++_, length, take}
 use Rattle.model.specs.Lists.{orElse}
 use Rattle.model.specs.Words.{Mem, word}
 use Rattle.model.specs.Layout.{root}
@@ -7,7 +7,7 @@ use Rattle.model.specs.Journal.{view}
 use Rattle.model.specs.State.{Names, inodeOf}
 use Rattle.model.specs.FileMap.{create, link, unlink, rename}
 use Rattle.model.specs.Answer.{done, Checks, firstRefusal}
-use Rattle.model.specs.Calls.{checks, action, actionChecks, roomChecks, createAction, linkAction, unlinkAction, renameAction}
+use Rattle.model.specs.Calls.{checks, action, actionChecks, spaceChecks, createAction, linkAction, unlinkAction, renameAction}
 use Rattle.model.specs.Calls.{isFull, invalidInode, sameInode}
 use Rattle.directory.specs.Places.{standing}
 use Rattle.answer.specs.Meaning.{meaning, numbered}
@@ -15,8 +15,8 @@ use Rattle.answer.specs.Comes.{Comes, cameTo}
 use Rattle.answer.specs.declared.Answer.{Answer}
 use Rattle.answer.specs.declared.Answer.the-variants.{Number}
 use Rattle.gate.specs.Gated.{rootNames, fillChecks, Gated}
-use Rattle.gate.proofs.Gates.{same-number}
 use Rattle.answer.proofs.Codes.{NoNumber}
+use Rattle.answer.proofs.Checked.{same-number}
 use Rattle.gate.proofs.Lists.{filledWords, ownChecks, stage-refused, stage-behind}
 use Rattle.checks.specs.Names.{freeInode, createFirst, renameFirst, linkFirst, unlinkFirst}
 
@@ -41,7 +41,7 @@ module _ (v l : List ℕ) (r : Answer) (places marks : List ℕ) (g : Gated v ro
 
   module _ (x : List ℕ) where
     abbrev created : Checks
-    created = roomChecks u P N (createAction u P N root x .appends)
+    created = spaceChecks u P N true (createAction u P N root x .appends)
 
     create-own : ownChecks v (create x) ≡ createFirst u N found x ++ created
     unfolding checks action actionChecks createAction createFirst isFull invalidInode
@@ -59,7 +59,7 @@ module _ (v l : List ℕ) (r : Answer) (places marks : List ℕ) (g : Gated v ro
       create-inode i j = same-number (createFirst u N found x) (freeInode u N) i (rw j at h)
 
     abbrev unlinked : Checks
-    unlinked = roomChecks u P N (unlinkAction u P N root x .appends)
+    unlinked = spaceChecks u P N false (unlinkAction u P N root x .appends)
 
     unlink-own : ownChecks v (unlink x) ≡ unlinkFirst found x ++ unlinked
     unfolding checks action actionChecks unlinkAction unlinkFirst
@@ -77,7 +77,7 @@ module _ (v l : List ℕ) (r : Answer) (places marks : List ℕ) (g : Gated v ro
 
   module _ (x y : List ℕ) where
     abbrev linked : Checks
-    linked = roomChecks u P N (linkAction u P N root x y .appends)
+    linked = spaceChecks u P N true (linkAction u P N root x y .appends)
 
     link-own : ownChecks v (link x y) ≡ linkFirst found x y ++ linked
     unfolding checks action actionChecks linkAction linkFirst isFull
@@ -94,7 +94,7 @@ module _ (v l : List ℕ) (r : Answer) (places marks : List ℕ) (g : Gated v ro
       link-inode i j = rw (← same-names) (same-number (linkFirst found x y) (inodeOf found x) i (rw j at h))
 
     abbrev renamed : Checks
-    renamed = cond (sameInode u P N root x y) [] (roomChecks u P N (renameAction u P N root x y .appends))
+    renamed = cond (sameInode u P N root x y) [] (spaceChecks u P N false (renameAction u P N root x y .appends))
 
     rename-own : ownChecks v (rename x y) ≡ renameFirst found x y ++ renamed
     unfolding checks action actionChecks renameAction renameFirst

@@ -13,8 +13,8 @@ use Rattle.links.proofs.Lowest.{inode-some}
 use Rattle.answer.specs.Meaning.{meaning, numbered}
 use Rattle.answer.specs.declared.Answer.{Answer}
 use Rattle.answer.specs.declared.Answer.the-variants.{Number}
-use Rattle.gate.proofs.Gates.{checks-after, same-refusal, none-refuses, same-number}
 use Rattle.answer.proofs.Codes.{NoNumber}
+use Rattle.answer.proofs.Checked.{checks-after, same-refusal, none-refuses, same-number}
 use Rattle.checks.specs.Names.{firstInvalid, freeInode, isThere, createFirst, renameFirst, linkFirst, unlinkFirst}
 
 -- The first c places of the table t are those of names in L bytes, and ns are these names.

@@ -38,10 +38,10 @@ slice-long ws₀ ws r es h e f = sym (length-take-le (8 * r) ws (omega (arith, h
 
 -- the append that writes the log of inode k anew, and what it comes to
 abbrev anewAppend : ℕ → Append
-anewAppend k = record { log = k; anew = true; file = 0; size = 0; second = 0; moved = 0; other = 0; valid = 0 }
+anewAppend k = record { log = k; anew = true; file = 0; size = 0; second = 0; moved = 0; other = 0; valid = 0; keeps = false }
 
 anew-outcome : (v : List ℕ) (k : ℕ) (ws : List ℕ) (es : List (List ℕ)) → entriesOf ws 0 (length ws / 8) ≡ es
-    → outcome v (actionOf (anewAppend k) ws []) ≡ outcome v (plain (entriesOnly true k es ∷ []) noWords [])
+    → outcome v (actionOf (anewAppend k) ws []) ≡ outcome v (plain false (entriesOnly true k es ∷ []) noWords [])
 anew-outcome v k ws es p =
     rw (one-log (anewAppend k) ws [] refl, asked-only (anewAppend k) ws refl refl refl, p, zeroed-none (anewAppend k) refl, also-nothing (anewAppend k) refl)
 

@@ -9,13 +9,14 @@ use Rattle.model.specs.FileMap.{recover}
 use Rattle.model.specs.Stores.{Stores, oneWord, firstOf, both, storeList}
 use Rattle.model.specs.Answer as model
 use Rattle.model.specs.Answer.{done, firstRefusal, shortMemory, journalOpen}
-use Rattle.model.specs.Calls.{commitOne, commit, oldValues, lacksRoom, allPrepared, allChanges, roomChecks, recoverAction, action, actionChecks, actionGroups, checks, groups}
+use Rattle.model.specs.Calls.{commitOne, commit, oldValues, allPrepared, allChanges, recoverAction, action, actionGroups, checks, groups}
 use Rattle.model.specs.Public.{volumeChecks, needsClosed, callChecks, fills}
 use Rattle.model.proofs.Tests.{by-bool, and-left}
 use Rattle.model.proofs.Lists.{all-has}
 use Rattle.model.proofs.Crash.Stores.{Only}
 use Rattle.model.proofs.Crash.Journal.{journal-parts, target-high}
 use Rattle.model.proofs.Crash.Landing.{volume-parts, sizes-parts}
+use Rattle.model.proofs.Crash.History.{recover-passes}
 use Rattle.stores.specs.Added.{Added, Adding}
 use Rattle.stores.proofs.Groups.{added-none, adding-all, adding-next, group-of}
 use Rattle.commit.specs.Commit.{changesFrom, changesOf, Pairs, Committed}
@@ -24,10 +25,11 @@ use Rattle.answer.specs.Comes.{Comes, cameTo}
 use Rattle.answer.specs.declared.Answer.{Answer}
 use Rattle.answer.specs.declared.Answer.the-variants.{Number, ShortMemory}
 use Rattle.answer.proofs.Codes.{NoNumber}
-use Rattle.answer.proofs.Coming.{comes-refused, comes-none, comes-as}
+use Rattle.answer.proofs.Checked.{checks-after, same-refusal, none-refuses}
+use Rattle.answer.proofs.Coming.{comes-refused, comes-told, comes-none, comes-as}
 use Rattle.gate.specs.Gated.{Gated}
-use Rattle.gate.proofs.Gates.{checks-after, same-refusal, none-refuses, gate-long, gate-enqueue}
-use Rattle.gate.proofs.Lists.{filledWords, comes-told}
+use Rattle.gate.proofs.Gates.{gate-long, gate-enqueue}
+use Rattle.gate.proofs.Lists.{filledWords}
 
 -- The old values that n positions from i on keep, each in its target; of two with one target the first counts.
 unfoldable pub backStores : Mem → ℕ → ℕ → Stores
@@ -88,8 +90,7 @@ recover-short v l h = comes-refused (cameTo v l recover) l ShortMemory shortMemo
 
 -- the checks of the volume are all that are asked
 no-more : (m : Mem) (y : model.Answer (List ℕ)) → firstRefusal ((needsClosed recover && isOpen m, journalOpen) ∷ checks m (m 0) (m 1) recover) y ≡ y
-unfolding checks action actionChecks recoverAction roomChecks lacksRoom
-no-more m y = by-bool (isOpen m) (λ o. rw o) (λ o. rw o)
+no-more m y = recover-passes m (m 0) (m 1) y
 
 module _ (v l : List ℕ) (h : 4096 ≤ length l) where
   came : cameTo v l recover ≡ firstRefusal (volumeChecks (length v) (word v)) (done (filledWords v recover))
@@ -100,7 +101,7 @@ module _ (v l : List ℕ) (h : 4096 ≤ length l) where
   module _ (r : Answer) (places marks : List ℕ) (g : Gated v root (volumeChecks (length v) (word v)) r places marks) where
     pub recover-refused : NoNumber r → Comes (cameTo v l recover) l r l
     recover-refused o =
-        comes-told v l recover r o (rw came (same-refusal r (volumeChecks (length v) (word v)) _ (g .answer) (λ x. some (length x)) (done (filledWords v recover)) o))
+        comes-told (cameTo v l recover) l r o (rw came (same-refusal r (volumeChecks (length v) (word v)) _ (g .answer) (λ x. some (length x)) (done (filledWords v recover)) o))
 
     module _ (n : ℕ) (e : r ≡ Number n) where
       passed : cameTo v l recover ≡ done (filledWords v recover)

@@ -71,6 +71,7 @@ fn clean_log(
         moved: 0,
         other: 0,
         valid: 0,
+        keeps: false,
     };
     append::make(v, marks, a, &words[..n], &none[..0], list)
 }

@@ -165,7 +165,8 @@ pub fn clean_names(v: &[u8], places: &[u16; 224], count: usize, words: &mut [u64
 }
 
 // Answers how many elements of a table of pages, from element i on, are consecutive pages.
-// Example: where elements 3, 4 and 5 are 70, 71 and 73, run_length(table, 3) is 2, and where element 5 is the last, run_length(table, 5) is 1.
+// Example: where elements 3, 4 and 5 are 70, 71 and 73, run_length(table, 3) is 2, and where element 5 is the last,
+// run_length(table, 5) is 1.
 fn run_length(table: &[u64], i: usize) -> usize
     requires { ⌜ (i < length (now table)) × (length (now table) ≤ 128) ⌝ }
     ensures { λ r. ⌜ Runs (now (table .entry)) i r ⌝ }
@@ -187,7 +188,8 @@ fn run_length(table: &[u64], i: usize) -> usize
 }
 
 // Lays writes into the table `words`, "one kind 1 entry for each longest stretch of consecutive file pages on consecutive data pages,
-// ascending, with the final size", and answers how many. Element i of `table` is the data page of file page file + i, or 0 where it has none.
+// ascending, with the final size", and answers how many. Element i of `table` is the data page of file page file + i, or 0 where it has
+// none.
 // Example: where the elements of table are 70, 71, 0 and 73, put_stretches(table, 3, 3584, words) is 2, and the entries are
 // write_words(3, 70, 2, 3584) and write_words(6, 73, 1, 3584).
 pub fn put_stretches(table: &[u64], file: u64, size: u64, words: &mut [u64]) -> usize

@@ -11,15 +11,20 @@ use Rattle.answer.specs.Meaning.{meaning}
 use Rattle.answer.specs.declared.Answer.{Answer}
 use Rattle.answer.specs.declared.Answer.the-variants.{Number, TooManyGaps}
 use Rattle.answer.proofs.Codes.{NoNumber}
+use Rattle.answer.proofs.Checked.{no-number, refusal-of}
 use Rattle.gate.specs.Gated.{Gated}
-use Rattle.gate.proofs.Gates.{no-number, refusal-of, gate-refused, gate-passed, gate-long, gate-pages}
-use Rattle.gaps.specs.Gaps.{gapsLeft, numberIn, Judged}
+use Rattle.gate.proofs.Gates.{gate-refused, gate-passed, gate-long, gate-pages}
+use Rattle.gaps.specs.Gaps.{gapsLeft, numberIn, counted, Judged}
 
 -- an answer that is no number has no count; m is what it means
 pub no-count : (r : Answer) (m : model.Answer (Option ℕ)) → meaning r ≡ m → NoNumber r → 0 ≡ numberIn m
 no-count r (refused k) e o = refl
 no-count r (done none) e o = refl
 no-count r (done (some x)) e o = no-number r x o e
+
+-- and `Number` has its own
+pub one-count : (a : Answer) (n : ℕ) → a ≡ Number n → n ≡ counted a
+one-count a n e = rw e
 
 -- the gaps of the volume v
 abbrev gapsOf : List ℕ → List (ℕ × ℕ)

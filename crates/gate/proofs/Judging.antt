@@ -10,8 +10,9 @@ use Rattle.survey.specs.Surveyed.{Surveyed}
 use Rattle.answer.specs.declared.Answer.{Answer}
 use Rattle.answer.specs.declared.Answer.the-variants.{Number, ShortMemory, NoVolume, Damaged, JournalOpen}
 use Rattle.gate.specs.Gated.{namesIn, fillChecks, Tables, Gated}
-use Rattle.gate.proofs.Gates.{gate-refused, gate-passed, same-number}
+use Rattle.gate.proofs.Gates.{gate-refused, gate-passed}
 use Rattle.answer.proofs.Codes.{NoNumber}
+use Rattle.answer.proofs.Checked.{same-number}
 
 -- f is what `is_volume` answered of v
 module _ (v : List ℕ) (d : ℕ) (f : Bool) (a : f ≡ isVolume (length v) (word v)) where

@@ -1,10 +1,10 @@
 -- For the calls that fill a store list, recover apart: the gate's checks come first, then the call's own; the words filled are those of its groups.
-use Rattle.model.proofs.Prelude.{ℕ, _*_, _≤_, _≡_, refl, sym, _∙_, ap, true, List, _∷_, _++_, Option, some, arith, lt-ltb, ltb, length}
+use Rattle.model.proofs.Prelude.{ℕ, _*_, _≤_, _≡_, _∙_, true, List, _∷_, _++_, Option, some, arith, lt-ltb, ltb, length}
 use Rattle.model.specs.Words.{word}
 use Rattle.model.specs.Journal.{isOpen, view}
 use Rattle.model.specs.Stores.{storeList}
 use Rattle.model.specs.FileMap.{Call}
-use Rattle.model.specs.Answer.{done, Checks, firstRefusal, mapAnswer}
+use Rattle.model.specs.Answer.{done, Checks, firstRefusal}
 use Rattle.model.specs.Calls.{checks, groups}
 use Rattle.model.specs.Public.{volumeChecks, closedChecks, needsClosed, callChecks, fills}
 use Rattle.model.proofs.Tests.{by-lt}
@@ -15,9 +15,10 @@ use Rattle.answer.specs.Comes.{Comes, cameTo}
 use Rattle.answer.specs.declared.Answer.{Answer}
 use Rattle.answer.specs.declared.Answer.the-variants.{Number}
 use Rattle.answer.proofs.Codes.{NoNumber}
-use Rattle.answer.proofs.Coming.{comes-refused}
+use Rattle.answer.proofs.Checked.{last-passes, checks-after, same-refusal, none-refuses}
+use Rattle.answer.proofs.Coming.{comes-told}
 use Rattle.gate.specs.Gated.{fillChecks, Gated}
-use Rattle.gate.proofs.Gates.{last-passes, refusal-of, checks-after, same-refusal, none-refuses, gate-refused, gate-passed}
+use Rattle.gate.proofs.Gates.{gate-refused, gate-passed}
 
 -- the words that call c fills on the volume v
 abbrev pub filledWords : List ℕ → Call → List ℕ
@@ -39,13 +40,6 @@ pub came : (v l : List ℕ) (c : Call) → needsClosed c ≡ true
 unfolding fills
 came v l c n = rw (all-checks v (length l) c n)
 
--- an answer without a number, which stands for what the call comes to, is its refusal
-pub comes-told : (v l : List ℕ) (c : Call) (r : Answer) → NoNumber r → meaning r ≡ mapAnswer (λ x. some (length x)) (cameTo v l c) → Comes (cameTo v l c) l r l
-comes-told v l c r o h =
-    let f : List ℕ → Option ℕ = λ x. some (length x) in
-    let w = refusal-of r (cameTo v l c) f (λ a. (length a, refl)) o h in
-    comes-refused (cameTo v l c) l r (w .0) (h ∙ ap (mapAnswer f) (sym (w .1))) (sym (w .1))
-
 -- r, places and marks are what the gate answered and left
 module _ (v l : List ℕ) {d : ℕ} (c : Call) (n : needsClosed c ≡ true) (r : Answer) (places marks : List ℕ)
     (g : Gated v d (fillChecks (length v) (word v) (length l)) r places marks) where
@@ -53,7 +47,7 @@ module _ (v l : List ℕ) {d : ℕ} (c : Call) (n : needsClosed c ≡ true) (r :
   words x = some (length x)
 
   pub fill-refused : NoNumber r → Comes (cameTo v l c) l r l
-  fill-refused o = comes-told v l c r o (rw (came v l c n) (gate-refused v _ r places marks g words _ _ o))
+  fill-refused o = comes-told (cameTo v l c) l r o (rw (came v l c n) (gate-refused v _ r places marks g words _ _ o))
 
   module _ (s : ℕ) (e : r ≡ Number s) where
     pub fill-behind : cameTo v l c ≡ firstRefusal (ownChecks v c) (done (filledWords v c))
@@ -65,7 +59,7 @@ module _ (v l : List ℕ) {d : ℕ} (c : Call) (n : needsClosed c ≡ true) (r :
       staged = fill-behind ∙ rw (own, checks-after first last (done (filledWords v c)))
 
       pub stage-refused : NoNumber t → Comes (cameTo v l c) l t l
-      stage-refused o = comes-told v l c t o (rw staged (same-refusal t first x h words (firstRefusal last (done (filledWords v c))) o))
+      stage-refused o = comes-told (cameTo v l c) l t o (rw staged (same-refusal t first x h words (firstRefusal last (done (filledWords v c))) o))
 
       pub stage-behind : (i : ℕ) → t ≡ Number i → cameTo v l c ≡ firstRefusal last (done (filledWords v c))
       stage-behind i j = staged ∙ none-refuses first x i (rw j at h) (firstRefusal last (done (filledWords v c)))

@@ -116,8 +116,8 @@ pub extern "C" fn volume_gaps(volume: &[u8], pairs: &mut [u64]) -> i64
 }
 
 // Fills a store list that makes a new, empty file with a name. Answers the count of words filled, or minus the number of the refusal: 1
-// short memory, 2 no volume, 3 damaged, 4 journal open, 5 bad name, 7 taken, 10 no inode, 11 directory full, 12 no space; the list is then
-// left as it was, here and below.
+// short memory, 2 no volume, 3 damaged, 4 journal open, 5 bad name, 7 taken, 10 no inode, 11 directory full, 12 no space, 15 last page; the
+// list is then left as it was, here and below.
 // Example: of 16 pages just formatted with 8 inodes the name "A1" answers 46.
 #[no_mangle]
 pub extern "C" fn volume_create(volume: &[u8], name: &[u8], list: &mut [u64]) -> i64
@@ -127,7 +127,7 @@ pub extern "C" fn volume_create(volume: &[u8], name: &[u8], list: &mut [u64]) ->
 }
 
 // Fills a store list that gives a file a further name. Answers the count of words filled, or minus the number of the refusal: 1 to 5, 6 not
-// there, 7 taken, 11 directory full, 12 no space.
+// there, 7 taken, 11 directory full, 12 no space, 15 last page.
 // Example: where "A1" is the only name and the directory's log page has room for an entry, "A1" and "A2" answer 22, and "A1" and "A1" -7.
 #[no_mangle]
 pub extern "C" fn volume_link(volume: &[u8], old: &[u8], new: &[u8], list: &mut [u64]) -> i64
@@ -158,7 +158,7 @@ pub extern "C" fn volume_rename(volume: &[u8], old: &[u8], new: &[u8], list: &mu
 }
 
 // Fills a store list that writes bytes into a file from an offset on. Answers the count of words filled, 0 for no bytes, or minus the
-// number of the refusal: 1 to 4, 6 not there, 8 over 4,096 bytes, 9 past the end, 12 no space.
+// number of the refusal: 1 to 4, 6 not there, 8 over 4,096 bytes, 9 past the end, 12 no space, 15 last page.
 // Example: of a file that was just made, 4 bytes at offset 510 answer 280.
 #[no_mangle]
 pub extern "C" fn volume_write(
@@ -174,7 +174,7 @@ pub extern "C" fn volume_write(
 }
 
 // Fills a store list that changes the size of a file. Answers the count of words filled, 0 where the size is the same, or minus the number
-// of the refusal: 1 to 4, 6 not there, 9 past the end, 12 no space.
+// of the refusal: 1 to 4, 6 not there, 9 past the end, 12 no space, 15 last page.
 // Example: of a file of 514 bytes, size 514 answers 0.
 #[no_mangle]
 pub extern "C" fn volume_set_size(volume: &[u8], inode: u64, size: u64, list: &mut [u64]) -> i64

@@ -18,8 +18,9 @@ use Rattle.answer.specs.Meaning.{meaning, refusalOf}
 use Rattle.answer.specs.declared.Answer.{Answer}
 use Rattle.answer.specs.declared.Answer.the-variants.{Number, NoVolume}
 use Rattle.gate.specs.Gated.{rootNames, Tables, Gated}
-use Rattle.gate.proofs.Gates.{refusal-of, same-refusal, none-refuses, gate-word-1, gate-pages, gate-ready}
+use Rattle.gate.proofs.Gates.{gate-word-1, gate-pages, gate-ready}
 use Rattle.answer.proofs.Codes.{NoNumber}
+use Rattle.answer.proofs.Checked.{refusal-of, same-refusal, none-refuses}
 use Rattle.stores.specs.Emitted.{Emitted}
 use Rattle.stores.proofs.Emitting.{emitted-both, emitted-parts}
 use Rattle.listing.specs.Lines.{GoodFiles}

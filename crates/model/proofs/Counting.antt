@@ -1,9 +1,9 @@
 -- Pages that are sought are found where there are so many: the lowest few are as many as hold, and taken pages are fewer by their number.
 use Rattle.model.proofs.Prelude.{ℕ, zero, suc, _+_, _≤_, _<_, min, _≡_, refl, _∙_, ap, ap₂, Bool, true, false, not, _&&_, and-true, List, [], _∷_, arith, add-zero, zero-add, length, eqb, ltb, lt-ltb, le-ltb, eq-eqb, ne-eqb}
-use Rattle.model.specs.Lists.{bit, sumBelow, lowestFew, has, distinct}
+use Rattle.model.specs.Lists.{bit, sumBelow, lowestFew, has, count, distinct}
 use Rattle.model.specs.Calls.{besides}
-use Rattle.model.proofs.Tests.{by-bool, by-eq, by-lt}
-use Rattle.model.proofs.Lists.{sumBelow-same, distinct-cons, has-head, has-tail}
+use Rattle.model.proofs.Tests.{by-bool, by-eq, by-lt, bit-le}
+use Rattle.model.proofs.Lists.{sumBelow-same, sumBelow-add, sumBelow-once, sumBelow-from, distinct-cons, has-head, has-tail}
 
 -- a sum by its first term
 sum-first : (n : ℕ) (f : ℕ → ℕ) → sumBelow (suc n) f ≡ f 0 + sumBelow n (λ i. f (i + 1))
@@ -35,6 +35,15 @@ few-lacks f P n =
     let e : length (lowestFew f P 0 n) ≡ min n s
     = few-count f P 0 n ∙ ap (min n) (sumBelow-same P _ _ (λ j l. ap (λ x. bit (f x)) (zero-add j))) in
     by-lt s n (λ h. rw (lt-ltb s n h) (lt-ltb _ n (omega arith))) (λ h. rw (le-ltb s n h) (le-ltb _ n (omega arith)))
+
+-- numbers are counted as often as there are numbers, those from P on left out
+pub count-sum : (P : ℕ) (xs : List ℕ) → sumBelow P (λ p. count p xs) ≤ length xs
+unfolding count bit
+count-sum P [] = let z = sumBelow-from P P (λ p. 0) (λ i l h. refl) (λ i l h. absurd (omega arith)) in omega arith
+count-sum P (x ∷ xs) =
+    let r = count-sum P xs in
+    let one = sumBelow-once P x true (λ p. bit (eqb p x)) (λ p. bit-le (eqb p x)) (λ p n. ap bit (ne-eqb p x n)) .0 in
+    let both = sumBelow-add P (λ p. count p (x ∷ xs)) (λ p. bit (eqb p x)) (λ p. count p xs) (λ p l. omega arith) in omega arith
 
 -- one page x less
 one-less : (g h : ℕ → Bool) (x : ℕ) → g x ≡ true → ((p : ℕ) → h p ≡ (g p && not (eqb p x))) → (P : ℕ)

@@ -4,6 +4,7 @@ use Rattle.model.proofs.Prelude.{ℕ}
 use Rattle.model.specs.Words.{Mem}
 use Rattle.model.specs.FileMap.{Call}
 use Rattle.model.specs.Claim.{ThirdDemand}
+use Rattle.model.specs.Promises.{PageKept}
 use Rattle.model.proofs.Frame.Dead.{Dead, low, frame}
 use Rattle.model.proofs.Crash.Commit.{Ready}
 use Rattle.model.proofs.Crash.History as history
@@ -25,7 +26,11 @@ duties P N m r = record {
 
 pub every-call-safe : (c : Call) → SafeCall c
 every-call-safe =
-    calls-safe (λ P N u w. Dead u P N w) (λ P N s u u′ o d. let f = frame P N s u u′ o d in (f .0, f .1)) (λ P N u w h. low h) duties
+    calls-safe (λ P N u w. Dead u P N w) frame (λ P N u w h. low h) duties
 
 pub third-demand : ThirdDemand 8
 third-demand = history.third-demand every-call-safe
+
+-- "Create, link, write and set size shall not take the last free page."
+pub page-kept : PageKept
+page-kept = history.page-kept every-call-safe

@@ -12,8 +12,8 @@ pub data Answer (A : Type 0) : Type 0 where
 -- "Format and carry out answer "done" and no number."
 pub record Nothing : Type 0 where
 
--- The numbers of document 01, "What the screen says", by their words; 14 is document 02's: "This number and those of later orders join
--- document 01's table".
+-- The numbers of document 01, "What the screen says", by their words; from 14 on they are document 02's: "This number and those of later
+-- orders join document 01's table".
 abbrev pub shortMemory : ℕ
 shortMemory = 1
 
@@ -55,6 +55,9 @@ badList = 13
 
 abbrev pub tooManyGaps : ℕ
 tooManyGaps = 14
+
+abbrev pub lastPage : ℕ
+lastPage = 15
 
 -- Conditions with their numbers, in the order in which they are checked: ascending, but "where an order names a number's place among the
 -- checks, that place decides and not the number."

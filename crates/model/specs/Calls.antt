@@ -1,4 +1,4 @@
--- What the changing calls fill, and when they refuse with 5 to 12. Document 01, "The store list" and "The calls".
+-- What the changing calls fill, and when they refuse with 5 to 12 and 15. Document 01, "The store list" and "The calls".
 -- Everything is read from the view u of a volume of P pages and N inodes.
 use Prim.Native.Nat.{ℕ, _+_, _-_, _*_, _/_, _%_, max}
 use mathlib.Core.Bool.{Bool, true, false, cond, _&&_, _||_, not}
@@ -6,7 +6,7 @@ use mathlib.Core.List.{List, [], _∷_, _++_, map}
 use mathlib.Core.Option.{Option, none, some}
 use lib.ListN.{length, getD}
 use lib.Dec.{leb, ltb, eqb}
-use Rattle.model.specs.Lists.{bit, allBelow, sumBelow, valuesFrom, lowest, lowestFew, has, count, indexOf, isSome, orElse}
+use Rattle.model.specs.Lists.{bit, allBelow, valuesFrom, lowest, lowestFew, has, count, indexOf, isSome, orElse}
 use Rattle.model.specs.Stretches.{Stretch, stretches}
 use Rattle.model.specs.Words.{Mem, leFrom}
 use Rattle.model.specs.Layout.{validWord, headWord, tailWord, root, isDirectory, pageEntries, filePages, fileBytes}
@@ -15,10 +15,10 @@ use Rattle.model.specs.Journal.{dequeueWord, enqueueWord, positionCount,
 use Rattle.model.specs.Entry.{nameOk, writeWords, sizeWords, addWords, removeWords}
 use Rattle.model.specs.Log.{tailSlots}
 use Rattle.model.specs.State.{File, fileOf, fileByte, Names, namesOf, inodeOf, inodes}
-use Rattle.model.specs.Accept.{isValid, isFile, free}
+use Rattle.model.specs.Accept.{isValid, isFile, free, freeCount}
 use Rattle.model.specs.FileMap.{Call, create, link, unlink, rename, write, setSize, clean, recover}
 use Rattle.model.specs.Stores.{Stores, oneWord, noWords, firstOf, both, onlyIf}
-use Rattle.model.specs.Answer.{Checks, badName, notThere, taken, longWrite, pastTheEnd, noInode, directoryFull, noSpace}
+use Rattle.model.specs.Answer.{Checks, badName, notThere, taken, longWrite, pastTheEnd, noInode, directoryFull, noSpace, lastPage}
 
 -- Writing a log.
 
@@ -152,10 +152,9 @@ module _ (u : Mem) (P : ℕ) (f : ℕ → Bool) (a : Append) where
   unfoldable pub freshLog : List ℕ
   freshLog = lowestFew (besides f dataPages) P 0 freshPages
 
-  -- 12: "the free pages are fewer than the data and log pages together". With one data page or none this is document 01's "for the data no
-  -- run long enough, or no page left for the log where it needs one (clean: fewer free than needed)".
-  unfoldable pub noRoom : Bool
-  noRoom = ltb (sumBelow P (λ p. bit (f p))) (a .count + freshPages)
+  -- how many pages it takes, "the data and log pages together"
+  unfoldable pub pagesNeeded : ℕ
+  pagesNeeded = a .count + freshPages
 
   -- "first group the data pages (all 64 words each), the entries (8 words each), a new log page's link, and the head if the tail was 0"
   unfoldable pub prepared : Stores
@@ -177,9 +176,9 @@ module _ (u : Mem) (P : ℕ) (f : ℕ → Bool) (a : Append) where
 
 -- Several appends of one call, in order.
 module _ (u : Mem) (P : ℕ) where
-  unfoldable pub lacksRoom : (ℕ → Bool) → List Append → Bool
-  lacksRoom f [] = false
-  lacksRoom f (a ∷ more) = let r = lacksRoom (pagesLeft u P f a) more in noRoom u P f a || r
+  unfoldable pub allNeeded : (ℕ → Bool) → List Append → ℕ
+  allNeeded f [] = 0
+  allNeeded f (a ∷ more) = pagesNeeded u P f a + allNeeded (pagesLeft u P f a) more
 
   unfoldable pub allPrepared : (ℕ → Bool) → List Append → Stores
   allPrepared f [] = noWords
@@ -189,23 +188,32 @@ module _ (u : Mem) (P : ℕ) where
   allChanges f [] = []
   allChanges f (a ∷ more) = ownChanges u P f a ++ allChanges (pagesLeft u P f a) more
 
+-- Room, of a call that needs some of the free pages. 12: "the free pages are fewer than the data and log pages together"; with one data
+-- page or none this is document 01's "for the data no run long enough, or no page left for the log where it needs one (clean: fewer free than
+-- needed)". Then 15, of a call that keeps the last free page (document 02, order 4): "The rule concerns only calls that take at least one
+-- page", "checked directly after 12".
+unfoldable pub roomChecks : Bool → ℕ → ℕ → Checks
+roomChecks keeps free needed = (ltb free needed, noSpace) ∷ (keeps && not (eqb needed 0) && eqb needed free, lastPage) ∷ []
+
 -- What a call does: the refusals that always apply; whether there is nothing to change; the refusals that apply only where something
--- changes; what is appended; further stores of the first group; further words to commit, after those of the appends.
+-- changes; whether it keeps the last free page ("Create, link, write and set size shall not take the last free page"; "Unlink, rename and
+-- clean may take the last page"); what is appended; further stores of the first group; further words to commit, after those of the appends.
 pub record Action : Type 0 where
   pub always : Checks
   pub unchanged : Bool
   pub changing : Checks
+  pub keeps : Bool
   pub appends : List Append
   pub further : Stores
   pub changes : List Change
 
 module _ (u : Mem) (P N : ℕ) where
-  -- 12, and in its place what else depends on the pages that a call takes
-  unfoldable pub roomChecks : List Append → Checks
-  roomChecks xs = (lacksRoom u P (free u P N) xs, noSpace) ∷ []
+  -- the checks for room of a call that makes the appends xs: "pages let go by the call do not count"
+  unfoldable pub spaceChecks : Bool → List Append → Checks
+  spaceChecks keeps xs = roomChecks keeps (freeCount u P N) (allNeeded u P (free u P N) xs)
 
   unfoldable pub actionChecks : Action → Checks
-  actionChecks a = a .always ++ cond (a .unchanged) [] (a .changing ++ roomChecks (a .appends))
+  actionChecks a = a .always ++ cond (a .unchanged) [] (a .changing ++ spaceChecks (a .keeps) (a .appends))
 
   -- "A call with nothing to change fills 0 words."
   unfoldable pub actionGroups : Action → List Stores
@@ -250,6 +258,7 @@ module _ (u : Mem) (P N : ℕ) where
         always = (not (nameOk n), badName) ∷ (stands d n, taken) ∷ (not (isSome invalidInode), noInode) ∷ (isFull d, directoryFull) ∷ [];
         unchanged = false;
         changing = [];
+        keeps = true;
         appends = entriesOnly false d (addWords i n ∷ []) ∷ [];
         further = both (oneWord (headWord i) 0) (oneWord (tailWord i) 0);
         changes = (validWord i, 1) ∷ [];
@@ -262,6 +271,7 @@ module _ (u : Mem) (P N : ℕ) where
             ∷ (isFull d, directoryFull) ∷ [];
         unchanged = false;
         changing = [];
+        keeps = true;
         appends = entriesOnly false d (addWords (inodeOf (namesOf u P N d) a) b ∷ []) ∷ [];
         further = noWords;
         changes = [];
@@ -273,6 +283,7 @@ module _ (u : Mem) (P N : ℕ) where
         always = (not (nameOk n), badName) ∷ (not (stands d n), notThere) ∷ [];
         unchanged = false;
         changing = [];
+        keeps = false;
         appends = entriesOnly false d (removeWords n ∷ []) ∷ [];
         further = noWords;
         changes = release d n;
@@ -288,6 +299,7 @@ module _ (u : Mem) (P N : ℕ) where
         always = (not (nameOk a && nameOk b), badName) ∷ (not (stands d a), notThere) ∷ [];
         unchanged = sameInode d a b;
         changing = [];
+        keeps = false;
         appends = entriesOnly false d (removeWords a ∷ addWords (inodeOf (namesOf u P N d) a) b ∷ []) ∷ [];
         further = noWords;
         changes = release d b;
@@ -324,6 +336,7 @@ module _ (u : Mem) (P N : ℕ) where
         always = (noFile k, notThere) ∷ (ltb writeBytes (length bs), longWrite) ∷ (ltb fileBytes (o + length bs), pastTheEnd) ∷ [];
         unchanged = eqb (length bs) 0;
         changing = [];
+        keeps = true;
         appends = writeAppend k o bs ∷ [];
         further = noWords;
         changes = [];
@@ -359,6 +372,7 @@ module _ (u : Mem) (P N : ℕ) where
         always = (noFile k, notThere) ∷ (ltb fileBytes s, pastTheEnd) ∷ [];
         unchanged = eqb s (fileOf u P N k .size);
         changing = [];
+        keeps = true;
         appends = sizeAppend k s ∷ [];
         further = noWords;
         changes = [];
@@ -388,6 +402,7 @@ module _ (u : Mem) (P N : ℕ) where
         always = (leb N k || not (isValid u k), notThere) ∷ [];
         unchanged = eqb (u (tailWord k)) 0;
         changing = [];
+        keeps = false;
         appends = entriesOnly true k (cleanEntries k) ∷ [];
         further = noWords;
         changes = [];
@@ -406,6 +421,7 @@ recoverAction m =
       always = [];
       unchanged = not (isOpen m);
       changing = [];
+      keeps = false;
       appends = [];
       further = oldValues m;
       changes = (dequeueWord, m enqueueWord) ∷ [];

@@ -1,5 +1,5 @@
 -- What else is promised: corollaries of the third demand, the shape of every store list, format, the reading calls in terms of the file
--- map, the calls that are served, and the gaps.
+-- map, the calls that are served, the gaps, and the page kept back.
 use Prim.Native.Nat.{ℕ, _+_, _-_, _*_, _^_, _≤_, _<_}
 use mathlib.Core.Path.{_≡_}
 use mathlib.Core.Logic.{_⊎_}
@@ -194,9 +194,17 @@ module _ (v : List ℕ) where
   abbrev pub logPagesFor : ℕ → ℕ → ℕ
   logPagesFor k n = pagesFor (tailSlots (word v) k + n) - length (tailPages (word v) k)
 
-  -- n more entries of inode k's log and c data pages have room: the free pages are no fewer than the data and log pages together
+  -- the data and log pages together that n more entries of inode k's log and c data pages take
+  abbrev pub pagesTaken : ℕ → ℕ → ℕ → ℕ
+  pagesTaken k n c = c + logPagesFor k n
+
+  -- they have room: the free pages are no fewer
   abbrev pub hasSpace : ℕ → ℕ → ℕ → Bool
-  hasSpace k n c = leb (c + logPagesFor k n) freePages
+  hasSpace k n c = leb (pagesTaken k n c) freePages
+
+  -- they have room and a free page is left, or they take none
+  abbrev pub leavesPage : ℕ → ℕ → ℕ → Bool
+  leavesPage k n c = eqb (pagesTaken k n c) 0 || ltb (pagesTaken k n c) freePages
 
   -- whether a page of file k is copied where its size becomes s
   abbrev pub copied : ℕ → ℕ → Bool
@@ -210,18 +218,18 @@ module _ (v : List ℕ) where
   pub record Serves (list : List ℕ) (M : FileMap) : Type 0 where
     pub creates : (n : List ℕ) → isServed (callAnswer v list (create n))
         ≡ every (nameOk n ∷ not (named M n) ∷ not (eqb (newInode (word v 1) M) 0) ∷ ltb (length (M .names)) mostNames
-        ∷ hasSpace root 1 0 ∷ [])
+        ∷ leavesPage root 1 0 ∷ [])
     pub links : (a b : List ℕ) → isServed (callAnswer v list (link a b))
-        ≡ every ((nameOk a && nameOk b) ∷ named M a ∷ not (named M b) ∷ ltb (length (M .names)) mostNames ∷ hasSpace root 1 0 ∷ [])
+        ≡ every ((nameOk a && nameOk b) ∷ named M a ∷ not (named M b) ∷ ltb (length (M .names)) mostNames ∷ leavesPage root 1 0 ∷ [])
     pub unlinks : (n : List ℕ) → isServed (callAnswer v list (unlink n)) ≡ every (nameOk n ∷ named M n ∷ hasSpace root 1 0 ∷ [])
     pub renames : (a b : List ℕ) → isServed (callAnswer v list (rename a b))
         ≡ every ((nameOk a && nameOk b) ∷ named M a ∷ (eqb (inodeOf (M .names) a) (inodeOf (M .names) b) || hasSpace root 2 0) ∷ [])
     pub writes : (k o : ℕ) (bs : List ℕ) → isServed (callAnswer v list (write k o bs))
         ≡ every (isSome (M .files k) ∷ leb (length bs) writeBytes ∷ leb (o + length bs) fileBytes
-        ∷ (eqb (length bs) 0 || hasSpace k (writesFor (pagesCovered o (o + length bs))) (pagesCovered o (o + length bs))) ∷ [])
+        ∷ (eqb (length bs) 0 || leavesPage k (writesFor (pagesCovered o (o + length bs))) (pagesCovered o (o + length bs))) ∷ [])
     pub sets : (k s : ℕ) → isServed (callAnswer v list (setSize k s))
         ≡ every (isSome (M .files k) ∷ leb s fileBytes
-        ∷ (eqb s (length (bytesIn M k)) || hasSpace k (1 + bit (copied k s)) (bit (copied k s))) ∷ [])
+        ∷ (eqb s (length (bytesIn M k)) || leavesPage k (1 + bit (copied k s)) (bit (copied k s))) ∷ [])
     pub cleans : (k : ℕ) → isServed (callAnswer v list (clean k))
         ≡ every ((eqb k root || isSome (M .files k)) ∷ (eqb (word v (tailWord k)) 0 || leb (pagesAnew k) freePages) ∷ [])
     pub recovers : isServed (callAnswer v list recover) ≡ true
@@ -262,3 +270,41 @@ pub record GapsFine (v : List ℕ) (gs : List (ℕ × ℕ)) : Type 0 where
 
 abbrev pub GapsDone : Type 0
 GapsDone = (v : List ℕ) → isAccepted v ≡ true → GapsFine v (gaps (view (word v)) (word v 0) (word v 1))
+
+-- The page kept back (document 02, order 4): "On a full handheld unlink fails when the remove entry wants a log page."
+
+-- what is done on the volume v with the map M, which has a free page: unlink of a standing name; rename of one, which takes one log page at
+-- most
+pub record Removes (v list : List ℕ) (M : FileMap) : Type 0 where
+  pub unlinks : (n : List ℕ) → named M n ≡ true → isServed (callAnswer v list (unlink n)) ≡ true
+  pub renames : (a b : List ℕ) → named M a ≡ true → nameOk b ≡ true → isServed (callAnswer v list (rename a b)) ≡ true
+
+abbrev pub RemovingServed : Type 0
+RemovingServed =
+    (v : List ℕ) → isAccepted v ≡ true → isOpen (word v) ≡ false → 1 ≤ freePages v → (list : List ℕ) → listWords ≤ length list
+    → Removes v list (mapIn v)
+
+-- "Unlink, rename and clean may take the last page."
+abbrev pub mayTakeLast : Call → Bool
+mayTakeLast (create n) = false
+mayTakeLast (link a b) = false
+mayTakeLast (unlink n) = true
+mayTakeLast (rename a b) = true
+mayTakeLast (write k o bs) = false
+mayTakeLast (setSize k s) = false
+mayTakeLast (clean k) = true
+mayTakeLast recover = false
+
+-- the count of free pages as the view has it, whether the journal is open or closed
+abbrev pub freeIn : List ℕ → ℕ
+freeIn v = freeCount (view (word v)) (word v 0) (word v 1)
+
+-- "Create, link, write and set size shall not take the last free page": through every event of a history that starts at v, landed, cut or
+-- refused, whose call is one of these or recover, a volume with a free page keeps one
+abbrev pub PageStays : List ℕ → History → Type 0
+PageStays v [] = Unit {0}
+PageStays v (e ∷ es) =
+    (mayTakeLast (e .call) ≡ false → 1 ≤ freeIn v → 1 ≤ freeIn (volumeAfter 8 v e)) × PageStays (volumeAfter 8 v e) es
+
+abbrev pub PageKept : Type 0
+PageKept = (v : List ℕ) → Bytes v → isAccepted v ≡ true → (es : History) → HistoryBytes es → PageStays v es

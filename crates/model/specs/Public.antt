@@ -46,7 +46,7 @@ needsClosed (setSize k s) = true
 needsClosed (clean k) = true
 needsClosed recover = false
 
--- 1 to 12, for a list of l words
+-- 1 to 12 and 15, for a list of l words
 unfoldable pub callChecks : ℕ → Mem → ℕ → Call → Checks
 callChecks len m l c =
     (ltb l listWords, shortMemory) ∷ (volumeChecks len m ++ (needsClosed c && isOpen m, journalOpen) ∷ checks m (m 0) (m 1) c)

@@ -1,5 +1,5 @@
 -- The calls by name: behind the gate and the call's first checks what is left is an append to the directory's log.
-use Rattle.model.proofs.Prelude.{ℕ, _/_, _≤_, _<_, _≡_, refl, sym, _∙_, ap, true, false, not, _&&_, List, [], _∷_, some, arith, eq-eqb, ne-eqb, not-false, eqb, length, take}
+use Rattle.model.proofs.Prelude.{ℕ, _/_, _≤_, _<_, _≡_, refl, sym, _∙_, ap, Bool, true, false, not, _&&_, List, [], _∷_, some, arith, eq-eqb, ne-eqb, not-false, eqb, length, take}
 use Rattle.model.specs.Lists.{orElse, isSome, count}
 use Rattle.model.specs.Words.{Mem, word}
 use Rattle.model.specs.Layout.{root}
@@ -9,7 +9,7 @@ use Rattle.model.specs.State.{Names, inodeOf, inodes, namesOf}
 use Rattle.model.specs.Stores.{Stores, storeList}
 use Rattle.model.specs.Accept.{logOk}
 use Rattle.model.specs.FileMap.{Call, create, link, unlink, rename}
-use Rattle.model.specs.Answer.{refused, done, Checks, firstRefusal}
+use Rattle.model.specs.Answer.{done, Checks, firstRefusal}
 use Rattle.model.specs.Calls.{Change, groups, action, actionChecks, actionGroups, createAction, linkAction, unlinkAction, renameAction, entriesOnly, invalidInode, release, sameInode}
 use Rattle.model.specs.Public.{needsClosed}
 use Rattle.model.proofs.Tests.{by-bool, no}
@@ -27,21 +27,17 @@ use Rattle.answer.specs.Comes.{Comes, cameTo}
 use Rattle.answer.specs.declared.Answer.{Answer}
 use Rattle.answer.specs.declared.Answer.the-variants.{Number}
 use Rattle.answer.proofs.Codes.{NoNumber}
+use Rattle.answer.proofs.Checked.{clash, same-number}
 use Rattle.answer.proofs.Coming.{comes-none, comes-as}
 use Rattle.append.specs.declared.Append.{Append}
 use Rattle.append.specs.Appended.{zeroed, alsoCommitted, plain, actionOf, outcome, Ready}
 use Rattle.append.proofs.Volumes.{closed-sizes, closed-fine}
 use Rattle.append.proofs.Outcomes.{one-log-ready, one-log, asked-only, zeroed-new, zeroed-none, also-new, also-nothing}
 use Rattle.gate.specs.Gated.{rootNames, fillChecks, Gated}
-use Rattle.gate.proofs.Gates.{same-number}
 use Rattle.gate.proofs.Lists.{fill-refused, fill-long, fill-closed, fill-view}
 use Rattle.checks.specs.Names.{firstInvalid, freeInode, createFirst, linkFirst, unlinkFirst, renameFirst}
 use Rattle.checks.proofs.Behind.{create-refused, create-behind, link-refused, link-behind, link-inode, unlink-refused, unlink-behind, unlink-inode, rename-refused, rename-behind, rename-inode}
 use Rattle.naming.specs.Root.{rootAppend, lastNamed}
-
--- a refusal is no done answer
-clash : {A X : Type 0} (k : ℕ) (a : A) → refused k ≡ done a → X
-clash k a e = let q : _≡_ {A = ℕ} 0 1 = cc in absurd (omega arith)
 
 -- checks that came to a number hold nowhere
 none-holds : (cs : Checks) (a n : ℕ) → done (some n) ≡ numbered (firstRefusal cs (done a)) → Passed cs
@@ -74,7 +70,7 @@ module _ (ns : Names) (i : ℕ) where
   lost-below N p f = by-bool (not (eqb i 0) && eqb (count i (inodes ns)) 1) (λ t. rw t (f (λ z. no (rw (eq-eqb i 0 z) at t)))) (λ t. rw t p)
 
 released-is : (u : Mem) (P N : ℕ) (x : List ℕ)
-    → alsoCommitted (rootAppend (lastNamed (namesOf u P N root) (inodeOf (namesOf u P N root) x)) 0) ≡ release u P N root x
+    → alsoCommitted (rootAppend false (lastNamed (namesOf u P N root) (inodeOf (namesOf u P N root) x)) 0) ≡ release u P N root x
 unfolding alsoCommitted lastNamed release
 released-is u P N x =
     let ns = namesOf u P N root in
@@ -115,25 +111,27 @@ module _ (v l : List ℕ) (r : Answer) (places marks : List ℕ) (g : Gated v ro
   pub some-inodes : 0 < m 1
   some-inodes = omega (arith, closed-sizes v marks closed-here .3)
 
-  -- the entries ws can be appended
-  root-ready : (o x : ℕ) (ws : List ℕ) → o < m 1 → 8 ≤ length ws → length ws ≤ 16 → Ready v marks (rootAppend o x) ws [] l
-  root-ready o x ws h f k =
-      let s = list-long in
-      one-log-ready v marks (rootAppend o x) ws [] l closed-here refl refl some-inodes (root-valid m (m 0) (m 1) (closed-fine v marks closed-here) some-inodes) h
-      (λ z. omega arith) (omega arith) refl (omega arith) (omega arith) (omega arith)
+  -- d is the append as the code makes it, which keeps the last free page or not (y); the entries ws can be appended
+  module _ (y : Bool) (o x : ℕ) (d : Append) (q : d ≡ rootAppend y o x) where
+    root-ready : (ws : List ℕ) → o < m 1 → 8 ≤ length ws → length ws ≤ 16 → Ready v marks d ws [] l
+    root-ready ws h f k =
+        let s = list-long in
+        rw q
+        (one-log-ready v marks (rootAppend y o x) ws [] l closed-here refl refl some-inodes (root-valid m (m 0) (m 1) (closed-fine v marks closed-here) some-inodes) h
+        (λ z. omega arith) (omega arith) refl (omega arith) (omega arith) (omega arith))
 
-  -- one entry w, as the code has it, and two, put into an array of 16 words
-  pub one-ready : (o x : ℕ) (w es : List ℕ) → w ≡ es → length es ≡ 8 → o < m 1 → Ready v marks (rootAppend o x) w [] l
-  one-ready o x w es q k h = let f : length w ≡ 8 = ap length q ∙ k in root-ready o x w h (omega arith) (omega arith)
+    -- one entry w, as the code has it, and two, put into an array of 16 words
+    pub one-ready : (w es : List ℕ) → w ≡ es → length es ≡ 8 → o < m 1 → Ready v marks d w [] l
+    one-ready w es i k h = let f : length w ≡ 8 = ap length i ∙ k in root-ready w h (omega arith) (omega arith)
 
-  pub two-ready : (o x : ℕ) (a b w₀ w₁ ws : List ℕ) → Put w₀ w₁ 0 a → Put w₁ ws 1 b → length w₀ ≡ 16 → o < m 1 → Ready v marks (rootAppend o x) ws [] l
-  two-ready o x a b w₀ w₁ ws p q k h = let f : length ws ≡ 16 = q .long ∙ p .long ∙ k in root-ready o x ws h (omega arith) (omega arith)
+    pub two-ready : (a b w₀ w₁ ws : List ℕ) → Put w₀ w₁ 0 a → Put w₁ ws 1 b → length w₀ ≡ 16 → o < m 1 → Ready v marks d ws [] l
+    two-ready a b w₀ w₁ ws p i k h = let f : length ws ≡ 16 = i .long ∙ p .long ∙ k in root-ready ws h (omega arith) (omega arith)
 
-  -- what they come to; es are these entries
-  root-outcome : (o x : ℕ) (ws : List ℕ) (es : List (List ℕ)) (s : Stores) (cs : List Change) → entriesOf ws 0 (length ws / 8) ≡ es
-      → zeroed (rootAppend o x) ≡ s → alsoCommitted (rootAppend o x) ≡ cs
-      → outcome v (actionOf (rootAppend o x) ws []) ≡ outcome v (plain (entriesOnly false root es ∷ []) s cs)
-  root-outcome o x ws es s cs p q w = rw (one-log (rootAppend o x) ws [] refl, asked-only (rootAppend o x) ws refl refl refl, p, q, w)
+    -- what they come to; es are these entries
+    root-outcome : (ws : List ℕ) (es : List (List ℕ)) (s : Stores) (cs : List Change) → entriesOf ws 0 (length ws / 8) ≡ es
+        → zeroed (rootAppend y o x) ≡ s → alsoCommitted (rootAppend y o x) ≡ cs
+        → outcome v (actionOf d ws []) ≡ outcome v (plain y (entriesOnly false root es ∷ []) s cs)
+    root-outcome ws es s cs p i w = rw (q, one-log (rootAppend y o x) ws [] refl, asked-only (rootAppend y o x) ws refl refl refl, p, i, w)
 
   -- Create: N is the inode count as the code read it, t what the first checks answered.
   module _ (x : List ℕ) (N : ℕ) (q : N ≡ m 1) (t : Answer) (h : meaning t ≡ numbered (firstRefusal (createFirst (view m) N found x) (done (freeInode (view m) N)))) where
@@ -161,14 +159,14 @@ module _ (v l : List ℕ) (r : Answer) (places marks : List ℕ) (g : Gated v ro
       pub create-below : i < m 1
       create-below = inode-below (view m) (m 0) (m 1) i inode-is not-zero
 
-      -- w is the entry, as the code has it
-      module _ (w : List ℕ) (o : w ≡ addWords i x) where
-        pub create-comes : (s : Answer) (l′ : List ℕ) → Comes (outcome v (actionOf (rootAppend i 1) w [])) l s l′ → Comes (cameTo v l (create x)) l s l′
+      -- w is the entry and d the append, as the code has them
+      module _ (w : List ℕ) (o : w ≡ addWords i x) (d : Append) (f : d ≡ rootAppend true i 1) where
+        pub create-comes : (s : Answer) (l′ : List ℕ) → Comes (outcome v (actionOf d w [])) l s l′ → Comes (cameTo v l (create x)) l s l′
         unfolding groups action actionGroups createAction invalidInode outcome actionChecks
         create-comes s l′ y =
-            let k = root-outcome i 1 w (addWords i x ∷ []) _ _ (one-named w (addWords i x) o (add-long i x)) (zeroed-new (rootAppend i 1) not-zero refl)
-            (also-new (rootAppend i 1) not-zero) in
-            comes-as (cameTo v l (create x)) (outcome v (actionOf (rootAppend i 1) w [])) l s l′
+            let k = root-outcome true i 1 d f w (addWords i x ∷ []) _ _ (one-named w (addWords i x) o (add-long i x)) (zeroed-new (rootAppend true i 1) not-zero refl)
+            (also-new (rootAppend true i 1) not-zero) in
+            comes-as (cameTo v l (create x)) (outcome v (actionOf d w [])) l s l′
             (create-behind v l r places marks g n e x t first i j ∙ rw (same-view, ← same-inode) (sym k)) y
 
   -- Link: t is what the first checks answered.
@@ -176,13 +174,13 @@ module _ (v l : List ℕ) (r : Answer) (places marks : List ℕ) (g : Gated v ro
     pub link-told : NoNumber t → Comes (cameTo v l (link x y)) l t l
     link-told o = link-refused v l r places marks g n e x y t h o
 
-    module _ (i : ℕ) (j : t ≡ Number i) (w : List ℕ) (o : w ≡ addWords i y) where
-      pub link-comes : (s : Answer) (l′ : List ℕ) → Comes (outcome v (actionOf (rootAppend 0 0) w [])) l s l′ → Comes (cameTo v l (link x y)) l s l′
+    module _ (i : ℕ) (j : t ≡ Number i) (w : List ℕ) (o : w ≡ addWords i y) (d : Append) (f : d ≡ rootAppend true 0 0) where
+      pub link-comes : (s : Answer) (l′ : List ℕ) → Comes (outcome v (actionOf d w [])) l s l′ → Comes (cameTo v l (link x y)) l s l′
       unfolding groups action actionGroups linkAction outcome actionChecks
       link-comes s l′ z =
-          let k = root-outcome 0 0 w (addWords i y ∷ []) _ _ (one-named w (addWords i y) o (add-long i y)) (zeroed-none (rootAppend 0 0) refl)
-          (also-nothing (rootAppend 0 0) refl) in
-          comes-as (cameTo v l (link x y)) (outcome v (actionOf (rootAppend 0 0) w [])) l s l′
+          let k = root-outcome true 0 0 d f w (addWords i y ∷ []) _ _ (one-named w (addWords i y) o (add-long i y)) (zeroed-none (rootAppend true 0 0) refl)
+          (also-nothing (rootAppend true 0 0) refl) in
+          comes-as (cameTo v l (link x y)) (outcome v (actionOf d w [])) l s l′
           (link-behind v l r places marks g n e x y t h i j ∙ rw (same-view, ← (rw same-view at (link-inode v l r places marks g n e x y t h i j))) (sym k)) z
 
   -- the directory's names lead to inodes of the volume
@@ -203,7 +201,7 @@ module _ (v l : List ℕ) (r : Answer) (places marks : List ℕ) (g : Gated v ro
     pub lost-low : z < m 1
     lost-low = rw lost-is (lost-below (rootNames v) (inodeOf (rootNames v) x) (m 1) some-inodes (names-below x))
 
-    lost-release : alsoCommitted (rootAppend z 0) ≡ release m (m 0) (m 1) root x
+    lost-release : alsoCommitted (rootAppend false z 0) ≡ release m (m 0) (m 1) root x
     lost-release = rw lost-is (released-is (view m) (m 0) (m 1) x ∙ ap (λ (f : Mem). release f (m 0) (m 1) root x) same-view)
 
   -- Unlink: t is what the first checks answered, z what `released` did.
@@ -215,13 +213,13 @@ module _ (v l : List ℕ) (r : Answer) (places marks : List ℕ) (g : Gated v ro
       pub unlink-i : i ≡ inodeOf (rootNames v) x
       unlink-i = unlink-inode v l r places marks g n e x t h i j
 
-      module _ (z : ℕ) (b : z ≡ lastNamed found i) (w : List ℕ) (o : w ≡ removeWords x) where
-        pub unlink-comes : (s : Answer) (l′ : List ℕ) → Comes (outcome v (actionOf (rootAppend z 0) w [])) l s l′ → Comes (cameTo v l (unlink x)) l s l′
+      module _ (z : ℕ) (b : z ≡ lastNamed found i) (w : List ℕ) (o : w ≡ removeWords x) (d : Append) (f : d ≡ rootAppend false z 0) where
+        pub unlink-comes : (s : Answer) (l′ : List ℕ) → Comes (outcome v (actionOf d w [])) l s l′ → Comes (cameTo v l (unlink x)) l s l′
         unfolding groups action actionGroups unlinkAction outcome actionChecks
         unlink-comes s l′ y =
-            let k = root-outcome z 0 w (removeWords x ∷ []) _ _ (one-named w (removeWords x) o (remove-long x)) (zeroed-none (rootAppend z 0) refl)
+            let k = root-outcome false z 0 d f w (removeWords x ∷ []) _ _ (one-named w (removeWords x) o (remove-long x)) (zeroed-none (rootAppend false z 0) refl)
             (lost-release x i z b unlink-i) in
-            comes-as (cameTo v l (unlink x)) (outcome v (actionOf (rootAppend z 0) w [])) l s l′
+            comes-as (cameTo v l (unlink x)) (outcome v (actionOf d w [])) l s l′
             (unlink-behind v l r places marks g n e x t h i j ∙ rw same-view (sym k)) y
 
   -- Rename: t is what the first checks answered, k what `find_name` answered of the new name.
@@ -248,16 +246,16 @@ module _ (v l : List ℕ) (r : Answer) (places marks : List ℕ) (g : Gated v ro
 
       -- e₀ and e₁ are the two entries, as the code has them
       module _ (o : i ≡ k → ⊥) (z : ℕ) (b : z ≡ lastNamed found k) (e₀ e₁ w₀ w₁ ws : List ℕ) (p₀ : e₀ ≡ removeWords x) (q₀ : Put w₀ w₁ 0 e₀)
-          (p₁ : e₁ ≡ addWords i y) (q₁ : Put w₁ ws 1 e₁) (f : length w₀ ≡ 16) where
+          (p₁ : e₁ ≡ addWords i y) (q₁ : Put w₁ ws 1 e₁) (f : length w₀ ≡ 16) (d′ : Append) (q : d′ ≡ rootAppend false z 0) where
         two-long : length ws ≡ 16
         two-long = q₁ .long ∙ q₀ .long ∙ f
 
         two-entries : entriesOf ws 0 (length ws / 8) ≡ removeWords x ∷ addWords i y ∷ []
         two-entries = rw (two-long, ← p₀, ← p₁) (put-two w₀ w₁ ws e₀ e₁ q₀ q₁ .entries)
 
-        pub rename-comes : (s : Answer) (l′ : List ℕ) → Comes (outcome v (actionOf (rootAppend z 0) ws [])) l s l′ → Comes (cameTo v l (rename x y)) l s l′
+        pub rename-comes : (s : Answer) (l′ : List ℕ) → Comes (outcome v (actionOf d′ ws [])) l s l′ → Comes (cameTo v l (rename x y)) l s l′
         unfolding groups action actionGroups renameAction outcome actionChecks
         rename-comes s l′ c =
-            let a = root-outcome z 0 ws (removeWords x ∷ addWords i y ∷ []) _ _ two-entries (zeroed-none (rootAppend z 0) refl) (lost-release y k z b rename-k) in
-            comes-as (cameTo v l (rename x y)) (outcome v (actionOf (rootAppend z 0) ws [])) l s l′
+            let a = root-outcome false z 0 d′ q ws (removeWords x ∷ addWords i y ∷ []) _ _ two-entries (zeroed-none (rootAppend false z 0) refl) (lost-release y k z b rename-k) in
+            comes-as (cameTo v l (rename x y)) (outcome v (actionOf d′ ws [])) l s l′
             (rename-behind v l r places marks g n e x y t h i j ∙ rw (same-test, ne-eqb i k o, same-view, ← (rw same-view at rename-i)) (sym a)) c

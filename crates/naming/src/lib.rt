@@ -12,23 +12,12 @@ ghost use Rattle.naming.specs.Root.{rootAppend, lastNamed};
 use answer::Answer;
 use append::Append;
 
-// Appends entries, eight words each, to the directory's log; together with its tail the valid word of inode `other`, if that is not 0,
-// becomes `valid`. Answers Number with the count of words filled, or NoSpace.
-// Example: where the directory's tail page has room for an entry, one entry fills 22 words, and 40 where inode 1 is let go.
-fn append_root(
-    v: &[u8],
-    marks: &mut [u8; 4096],
-    entries: &[u64],
-    other: usize,
-    valid: u64,
-    list: &mut [u64],
-) -> Answer
-    requires { ⌜ Ready (now v) (now marks) (rootAppend other valid) (now entries) [] (now list) ⌝ }
-    ensures { λ r. ⌜ Comes (outcome (now (v .entry)) (actionOf (rootAppend other valid) (now (entries .entry)) [])) (now (list .entry)) r
-        (now (list .exit)) ⌝ }
+// Answers an append to the directory's log; together with its tail the valid word of inode `other`, if that is not 0, becomes `valid`.
+// Example: to_root(true, 1, 1) makes inode 1 a file and keeps the last free page, to_root(false, 1, 0) lets inode 1 go and may take it.
+fn to_root(keeps: bool, other: usize, valid: u64) -> Append
+    ensures { λ r. ⌜ r ≡ rootAppend keeps other valid ⌝ }
 {
-    let none = [0u64; 1];
-    let a = Append {
+    Append {
         log: layout::ROOT,
         anew: false,
         file: 0,
@@ -37,13 +26,29 @@ fn append_root(
         moved: 0,
         other,
         valid,
-    };
+        keeps,
+    }
+}
+
+// Makes an append of entries, eight words each, that has no data. Answers Number with the count of words filled, NoSpace or LastPage.
+// Example: where the directory's tail page has room for an entry, one entry fills 22 words, and 40 where inode 1 is let go.
+fn append_entries(
+    v: &[u8],
+    marks: &mut [u8; 4096],
+    a: Append,
+    entries: &[u64],
+    list: &mut [u64],
+) -> Answer
+    requires { ⌜ Ready (now v) (now marks) a (now entries) [] (now list) ⌝ }
+    ensures { λ r. ⌜ Comes (outcome (now (v .entry)) (actionOf a (now (entries .entry)) [])) (now (list .entry)) r (now (list .exit)) ⌝ }
+{
+    let none = [0u64; 1];
     append::make(v, marks, a, entries, &none[..0], list)
 }
 
 // Makes a new, empty file with a name: fills the list with the stores that add the name and make the lowest invalid inode valid. Answers
 // Number with the count of words filled.
-// Refusals: ShortMemory, NoVolume, Damaged, JournalOpen, BadName, Taken, NoInode, DirectoryFull, NoSpace.
+// Refusals: ShortMemory, NoVolume, Damaged, JournalOpen, BadName, Taken, NoInode, DirectoryFull, NoSpace, LastPage.
 // Example: of 16 pages just formatted with 8 inodes create(v, b"A1", list) is Number(46); carried out, "A1" leads to inode 1.
 pub fn create(v: &[u8], name: &[u8], list: &mut [u64]) -> Answer
     ensures { λ r. ⌜ Fills (now (v .entry)) (now (list .entry)) (create (now (name .entry))) r (now (list .exit)) ⌝ }
@@ -60,12 +65,12 @@ pub fn create(v: &[u8], name: &[u8], list: &mut [u64]) -> Answer
         return found;
     };
     let e = entries::add_words(inode, name);
-    append_root(v, &mut marks, &e, inode as usize, 1, list)
+    append_entries(v, &mut marks, to_root(true, inode as usize, 1), &e, list)
 }
 
 // Gives a file a further name: fills the list with the stores that add the new name for the inode of the old one. Answers Number with the
 // count of words filled.
-// Refusals: ShortMemory, NoVolume, Damaged, JournalOpen, BadName, NotThere, Taken, DirectoryFull, NoSpace.
+// Refusals: ShortMemory, NoVolume, Damaged, JournalOpen, BadName, NotThere, Taken, DirectoryFull, NoSpace, LastPage.
 // Example: where "A1" is the only name and the directory's log page has room for an entry, link(v, b"A1", b"A2", list) is Number(22), and
 // link(v, b"A1", b"A1", list) Taken.
 pub fn link(v: &[u8], old: &[u8], new: &[u8], list: &mut [u64]) -> Answer
@@ -82,7 +87,7 @@ pub fn link(v: &[u8], old: &[u8], new: &[u8], list: &mut [u64]) -> Answer
         return found;
     };
     let e = entries::add_words(inode, new);
-    append_root(v, &mut marks, &e, 0, 0, list)
+    append_entries(v, &mut marks, to_root(true, 0, 0), &e, list)
 }
 
 // Answers the inode, if exactly one of the names at the first count places leads to it; else 0.
@@ -120,7 +125,7 @@ pub fn unlink(v: &[u8], name: &[u8], list: &mut [u64]) -> Answer
     };
     let last = released(v, &places, count as usize, inode);
     let e = entries::remove_words(name);
-    append_root(v, &mut marks, &e, last as usize, 0, list)
+    append_entries(v, &mut marks, to_root(false, last as usize, 0), &e, list)
 }
 
 // Gives a file another name in place of one: fills the list with the stores that remove the old name, add the new one for its inode and,
@@ -150,5 +155,11 @@ pub fn rename(v: &[u8], old: &[u8], new: &[u8], list: &mut [u64]) -> Answer
     let mut words = [0u64; 16];
     entries::put_entry(&mut words, 0, &entries::remove_words(old));
     entries::put_entry(&mut words, 1, &entries::add_words(inode, new));
-    append_root(v, &mut marks, &words, last as usize, 0, list)
+    append_entries(
+        v,
+        &mut marks,
+        to_root(false, last as usize, 0),
+        &words,
+        list,
+    )
 }

@@ -25,8 +25,9 @@ use Rattle.answer.specs.Meaning.{meaning, numbered}
 use Rattle.answer.specs.declared.Answer.{Answer}
 use Rattle.answer.specs.declared.Answer.the-variants.{Number}
 use Rattle.gate.specs.Gated.{rootNames, Gated}
-use Rattle.gate.proofs.Gates.{refusal-of, same-refusal, none-refuses, gate-refused, gate-passed, gate-pages}
+use Rattle.gate.proofs.Gates.{gate-refused, gate-passed, gate-pages}
 use Rattle.answer.proofs.Codes.{NoNumber}
+use Rattle.answer.proofs.Checked.{refusal-of, same-refusal, none-refuses}
 use Rattle.state.specs.Stated.{Stated}
 
 -- an element of a list that was mapped

@@ -1,7 +1,7 @@
 -- The lowest few numbers below P of which f holds are the lowest of them and, behind it, the lowest few less one.
-use Rattle.model.proofs.Prelude.{ℕ, zero, suc, _+_, _-_, _≤_, _<_, _≡_, refl, ap, Bool, true, false, cond, not, [], _∷_, arith, sub-zero, add-one, eqb, ltb, length, eq-eqb, ne-eqb, lt-ltb, le-ltb}
+use Rattle.model.proofs.Prelude.{ℕ, zero, suc, _+_, _-_, _≤_, _<_, _≡_, refl, Bool, cond, [], _∷_, arith, add-one, length}
 use Rattle.model.specs.Lists.{lowest, lowestFew, orElse}
-use Rattle.model.proofs.Tests.{by-bool, by-eq}
+use Rattle.model.proofs.Tests.{by-bool}
 
 module _ (f : ℕ → Bool) (P : ℕ) where
   few-end : (s n : ℕ) → P ≤ s → lowestFew f (P - s) s n ≡ []
@@ -40,25 +40,3 @@ module _ (f : ℕ → Bool) (P : ℕ) where
 
   pub few-found-first : (from n p : ℕ) → p ≡ orElse (lowest f (P - from) from) P → length (lowestFew f (P - from) from (n + 1)) ≡ n + 1 → p < P
   few-found-first from n p = found-from (P - from) from n p refl
-
-  -- The loop of `has_free`: of n numbers m are still sought, from s on; w is how many there are of the n.
-
-  pub few-start : (n : ℕ) → length (lowestFew f (P - 0) 0 n) + n ≡ length (lowestFew f P 0 n) + n
-  few-start n = rw sub-zero
-
-  module _ (s m n w : ℕ) (y : length (lowestFew f (P - s) s m) + n ≡ w + m) where
-    pub few-enough : m ≡ 0 → true ≡ not (ltb w n)
-    few-enough e = rw (le-ltb w n (omega arith))
-
-    pub few-over : P ≤ s → eqb m 0 ≡ not (ltb w n)
-    few-over l =
-        let e = ap length (few-end s m l) in
-        by-eq m 0 (λ h. rw (eq-eqb m 0 h, le-ltb w n (omega arith))) (λ h. rw (ne-eqb m 0 h, lt-ltb w n (omega arith)))
-
-    -- k is how many are sought behind s
-    module _ (k : ℕ) (l : s < P) (h : m ≡ 0 → ⊥) where
-      pub few-found : k ≡ m - 1 → f s ≡ true → length (lowestFew f (P - (s + 1)) (s + 1) k) + n ≡ w + k
-      few-found g x = let e = ap length (rw x at (few-turn s m k l (omega arith))) in omega arith
-
-      pub few-passed : k ≡ m → f s ≡ false → length (lowestFew f (P - (s + 1)) (s + 1) k) + n ≡ w + k
-      few-passed g x = let e = ap length (rw x at (few-turn s m (m - 1) l (omega arith))) in rw g (omega arith)

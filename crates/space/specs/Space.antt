@@ -20,8 +20,8 @@ pub record Found (f : ℕ → Bool) (P from n : ℕ) (os : List ℕ) (r : Bool) 
 abbrev pub ArePages : ℕ → List ℕ → Type 0
 ArePages n ps = (j : ℕ) → j < n → getD ps j 0 < 4096
 
--- n pages for data, of P, were sought in the marks b: f says which are not marked, r is whether there are so many, and then they are the first
--- n elements of the array ps, which was os, and are marked in the marks c
+-- n pages for data, of P, were sought in the marks b: f says which are not marked, r is whether there are so many, and then they are the
+-- first n elements of the array ps, which was os, and are marked in the marks c
 module _ (b : List ℕ) (P N n : ℕ) (os : List ℕ) where
   abbrev f : ℕ → Bool
   f = unmarked b P N

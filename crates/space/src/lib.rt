@@ -1,11 +1,9 @@
 // Free pages, found in the marks that the judge of a volume left: a byte for each page, 0 where the page is not in use.
 // Every search goes through the marks once.
 ghost use mathlib.Core.Path.{_≡_};
-ghost use mathlib.Core.Bool.{not};
 ghost use Prim.Native.Nat.{_-_, _≤_, _<_};
-ghost use lib.Dec.{ltb};
 ghost use lib.ListN.{length, take, set};
-ghost use Rattle.model.specs.Lists.{orElse, lowest, lowestFew};
+ghost use Rattle.model.specs.Lists.{orElse, lowest};
 ghost use Rattle.model.specs.Calls.{lowestRun};
 ghost use Rattle.marks.specs.Marks.{marked, unmarked};
 ghost use Rattle.space.specs.Space.{Found, ArePages, PagesTaken};
@@ -39,28 +37,6 @@ pub fn next_free(marks: &[u8; 4096], sizes: Sizes, from: usize) -> usize
     pages
 }
 
-// Answers whether n pages are not marked.
-// Example: of 16 pages, 8 inodes and marks that are all 0 14 pages are free, and 15 are not.
-pub fn has_free(marks: &[u8; 4096], sizes: Sizes, n: usize) -> bool
-    requires { ⌜ sizes .pages ≤ 4096 ⌝ }
-    ensures { λ r. ⌜ r
-        ≡ not (ltb (length (lowestFew (unmarked (now (marks .entry)) (sizes .pages) (sizes .inodes)) (sizes .pages) 0 n)) n) ⌝ }
-{
-    let pages = sizes.pages;
-    let mut left = n;
-    let mut p: usize = 0;
-    while p < pages {
-        if left == 0 {
-            return true;
-        }
-        if is_free(marks, sizes, p) {
-            left = left - 1;
-        }
-        p = p + 1;
-    }
-    left == 0
-}
-
 // Answers the first page of the lowest run of n pages that are not marked, and the page count where there is none. The run of 0 pages
 // starts at page 0.
 // Example: of 16 pages, 8 inodes and marks that are all 0 but that of page 4, the lowest run of 2 pages starts at page 2, that of 3 at
@@ -90,8 +66,8 @@ fn lowest_run(marks: &[u8; 4096], sizes: Sizes, n: usize) -> usize
     pages
 }
 
-// Answers the page from which n pages for data are sought: the first page of the lowest run of n pages that are not marked, and page 0 where
-// there is none.
+// Answers the page from which n pages for data are sought: the first page of the lowest run of n pages that are not marked, and page 0
+// where there is none.
 // Example: of 16 pages, 8 inodes and marks that are all 0 but that of page 4, search_start(marks, sizes, 3) is 5, and
 // search_start(marks, sizes, 12) is 0.
 fn search_start(marks: &[u8; 4096], sizes: Sizes, n: usize) -> usize
@@ -150,8 +126,8 @@ fn mark_pages(marks: &mut [u8; 4096], pages: &[u64], n: usize)
     }
 }
 
-// Takes n pages for data, the lowest run of n pages that are not marked or, where there is none, the lowest n pages that are not: marks them
-// and puts them into `pages`, ascending. Answers whether there are so many.
+// Takes n pages for data, the lowest run of n pages that are not marked or, where there is none, the lowest n pages that are not: marks
+// them and puts them into `pages`, ascending. Answers whether there are so many.
 // Example: where pages 5, 6, 8 and 9 alone are not marked, take_pages(marks, sizes, 2, pages) takes 5 and 6, and
 // take_pages(marks, sizes, 3, pages) 5, 6 and 8; take_pages(marks, sizes, 5, pages) is false.
 pub fn take_pages(marks: &mut [u8; 4096], sizes: Sizes, n: usize, pages: &mut [u64]) -> bool

@@ -13,8 +13,9 @@ use Rattle.answer.specs.Meaning.{meaning}
 use Rattle.answer.specs.declared.Answer.{Answer}
 use Rattle.answer.specs.declared.Answer.the-variants.{Number, NotThere}
 use Rattle.gate.specs.Gated.{Gated}
-use Rattle.gate.proofs.Gates.{no-number, gate-refused, gate-passed, gate-closed}
+use Rattle.gate.proofs.Gates.{gate-refused, gate-passed, gate-closed}
 use Rattle.answer.proofs.Codes.{NoNumber}
+use Rattle.answer.proofs.Checked.{no-number}
 use Rattle.state.specs.Stated.{FileState, Stated}
 use Rattle.state.proofs.Sizes.{there-below, there-file-0, there-valid, file-log}
 

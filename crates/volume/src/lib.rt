@@ -39,7 +39,7 @@ pub fn carry_out(v: &mut [u8], list: &[u64], count: u64) -> Answer
 
 // Makes a new, empty file with a name: fills the list with the stores that add the name and make the lowest invalid inode valid. Answers
 // Number with the count of words filled.
-// Refusals: ShortMemory, NoVolume, Damaged, JournalOpen, BadName, Taken, NoInode, DirectoryFull, NoSpace.
+// Refusals: ShortMemory, NoVolume, Damaged, JournalOpen, BadName, Taken, NoInode, DirectoryFull, NoSpace, LastPage.
 // Example: of 16 pages just formatted with 8 inodes create(v, b"A1", list) is Number(46); carried out, "A1" leads to inode 1.
 pub fn create(v: &[u8], name: &[u8], list: &mut [u64]) -> Answer
     ensures { λ r. ⌜ Fills (now (v .entry)) (now (list .entry)) (create (now (name .entry))) r (now (list .exit)) ⌝ }
@@ -49,7 +49,7 @@ pub fn create(v: &[u8], name: &[u8], list: &mut [u64]) -> Answer
 
 // Gives a file a further name: fills the list with the stores that add the new name for the inode of the old one. Answers Number with the
 // count of words filled.
-// Refusals: ShortMemory, NoVolume, Damaged, JournalOpen, BadName, NotThere, Taken, DirectoryFull, NoSpace.
+// Refusals: ShortMemory, NoVolume, Damaged, JournalOpen, BadName, NotThere, Taken, DirectoryFull, NoSpace, LastPage.
 // Example: where "A1" is the only name and the directory's log page has room for an entry, link(v, b"A1", b"A2", list) is Number(22), and
 // link(v, b"A1", b"A1", list) Taken.
 pub fn link(v: &[u8], old: &[u8], new: &[u8], list: &mut [u64]) -> Answer
@@ -83,7 +83,7 @@ pub fn rename(v: &[u8], old: &[u8], new: &[u8], list: &mut [u64]) -> Answer
 // Writes bytes to a file from an offset on: fills the list with the store list. The data goes to the lowest run of free pages that is long
 // enough or, where there is none, to the lowest free pages. Answers Number with the count of words filled, 0 where there are no bytes to
 // write.
-// Refusals: ShortMemory, NoVolume, Damaged, JournalOpen, NotThere, LongWrite, PastTheEnd, NoSpace.
+// Refusals: ShortMemory, NoVolume, Damaged, JournalOpen, NotThere, LongWrite, PastTheEnd, NoSpace, LastPage.
 // Example: where inode 1 is an empty file with a log page that has room for an entry, write(v, 1, 0, b"abcd", list) is Number(150), and
 // write(v, 1, 65533, b"abcd", list) is PastTheEnd.
 pub fn write(v: &[u8], inode: u64, offset: u64, bytes: &[u8], list: &mut [u64]) -> Answer
@@ -94,7 +94,7 @@ pub fn write(v: &[u8], inode: u64, offset: u64, bytes: &[u8], list: &mut [u64]) 
 
 // Sets the size of a file: fills the list with the store list. Answers Number with the count of words filled, 0 where the file has that
 // size already.
-// Refusals: ShortMemory, NoVolume, Damaged, JournalOpen, NotThere, PastTheEnd, NoSpace.
+// Refusals: ShortMemory, NoVolume, Damaged, JournalOpen, NotThere, PastTheEnd, NoSpace, LastPage.
 // Example: where inode 1 is a file of 1,024 bytes on two pages and its log has a page with room for two entries, set_size(v, 1, 700, list)
 // is Number(166), set_size(v, 1, 512, list) Number(22), set_size(v, 1, 1024, list) Number(0) and set_size(v, 1, 65537, list) PastTheEnd.
 pub fn set_size(v: &[u8], inode: u64, size: u64, list: &mut [u64]) -> Answer

@@ -11,7 +11,7 @@ use Rattle.model.specs.Accept.{isValid}
 use Rattle.model.specs.FileMap.{Call, write, setSize}
 use Rattle.model.specs.Answer.{done, Checks, firstRefusal, shortMemory, notThere, longWrite, pastTheEnd}
 use Rattle.model.specs.Calls as calls
-use Rattle.model.specs.Calls.{pagesCovered, noFile, checks, groups, action, actionChecks, actionGroups, roomChecks, writeAppend, writeAction, sizeAppend, sizeAction}
+use Rattle.model.specs.Calls.{pagesCovered, noFile, checks, groups, action, actionChecks, actionGroups, spaceChecks, writeAppend, writeAction, sizeAppend, sizeAction}
 use Rattle.model.specs.Public.{volumeChecks, closedChecks, needsClosed, size, sizeAnswer}
 use Rattle.model.proofs.Crash.Journal.{closed-view}
 use Rattle.contents.specs.Laid.{laid}
@@ -23,13 +23,13 @@ use Rattle.answer.specs.Comes.{Comes, cameTo}
 use Rattle.answer.specs.declared.Answer.{Answer}
 use Rattle.answer.specs.declared.Answer.the-variants.{Number, ShortMemory, LongWrite, PastTheEnd}
 use Rattle.answer.proofs.Codes.{NoNumber}
-use Rattle.answer.proofs.Coming.{comes-refused, comes-none, comes-as}
+use Rattle.answer.proofs.Checked.{same-refusal, none-refuses}
+use Rattle.answer.proofs.Coming.{comes-refused, comes-told, comes-none, comes-as}
 use Rattle.append.specs.declared.Append.{Append}
 use Rattle.append.specs.Appended.{asked, plain, actionOf, outcome, Ready}
 use Rattle.append.proofs.Outcomes.{one-log-ready, one-log, all-first, zeroed-none, also-nothing, outcome-words}
 use Rattle.gate.specs.Gated.{fillChecks}
-use Rattle.gate.proofs.Gates.{same-refusal, none-refuses}
-use Rattle.gate.proofs.Lists.{filledWords, ownChecks, came, comes-told}
+use Rattle.gate.proofs.Lists.{filledWords, ownChecks, came}
 use Rattle.state.specs.Stated.{FileState, Stated}
 use Rattle.state.proofs.Sizes.{there-valid}
 use Rattle.state.proofs.Within.{file-below}
@@ -59,7 +59,7 @@ module _ (v l : List ℕ) (c : Call) (closed : needsClosed c ≡ true) (k : ℕ)
 
     state-refused : NoNumber r → Comes (cameTo v l c) l r l
     state-refused o =
-        comes-told v l c r o (rw staged (same-refusal r first _ sized (λ x. some (length x)) (firstRefusal rest (done (filledWords v c))) o))
+        comes-told (cameTo v l c) l r o (rw staged (same-refusal r first _ sized (λ x. some (length x)) (firstRefusal rest (done (filledWords v c))) o))
 
     behind : (s : ℕ) → r ≡ Number s → cameTo v l c ≡ firstRefusal rest (done (filledWords v c))
     behind s e = staged ∙ none-refuses first _ s (rw e at sized) (firstRefusal rest (done (filledWords v c)))
@@ -81,12 +81,12 @@ module _ (v l : List ℕ) (h : 4096 ≤ length l) (k s : ℕ) (marks t : List �
 
   file-outcome : (ws ds : List ℕ) (es : List (List ℕ)) (c : ℕ) (g : ℕ → ℕ) → entriesOf ws 0 (length ws / 8) ≡ es → length ds / 64 ≡ c
       → ((j : ℕ) → j < 64 * c → element ds j ≡ g j)
-      → outcome v (plain (record { log = k; anew = false; entries = es; file = i; count = c; words = g; size = z } ∷ []) noWords [])
+      → outcome v (plain true (record { log = k; anew = false; entries = es; file = i; count = c; words = g; size = z } ∷ []) noWords [])
       ≡ outcome v (actionOf d ws ds)
   unfolding asked
   file-outcome ws ds es c g x y same =
       rw (same-append, one-log (fileAppend k i z) ws ds refl, all-first (fileAppend k i z) ws refl, x, y, zeroed-none (fileAppend k i z) refl, also-nothing (fileAppend k i z) refl)
-      (sym (outcome-words v k false es i c z (element ds) g same noWords []))
+      (sym (outcome-words v k false es i c z (element ds) g same true noWords []))
 
 -- the first n elements of an array
 taken : (n : ℕ) (ds : List ℕ) (g : ℕ → ℕ) → ((j : ℕ) → j < n → getD ds j 0 ≡ g j) → (j : ℕ) → j < n → element (take n ds) j ≡ g j
@@ -101,7 +101,7 @@ module _ (v l : List ℕ) (k o : ℕ) (bs : List ℕ) where
   abbrev writeRest : Checks
   writeRest =
       (ltb writeBytes (length bs), longWrite) ∷ (ltb fileBytes (o + length bs), pastTheEnd)
-      ∷ cond (eqb (length bs) 0) [] (roomChecks (view (word v)) (word v 0) (word v 1) (written ∷ []))
+      ∷ cond (eqb (length bs) 0) [] (spaceChecks (view (word v)) (word v 0) (word v 1) true (written ∷ []))
 
   write-own : ownChecks v (write k o bs) ≡ (noFile (view (word v)) (word v 0) (word v 1) k, notThere) ∷ writeRest
   unfolding checks action actionChecks writeAction
@@ -149,7 +149,7 @@ module _ (v l : List ℕ) (k o : ℕ) (bs : List ℕ) where
                 let n = write-taken in
                 file-ready v l h k s marks t (a .state s e) f z d q [] (take (64 * c) ds) (omega arith) (omega arith) (omega arith) (omega arith) (omega arith)
 
-            write-is : cameTo v l (write k o bs) ≡ outcome v (plain (written ∷ []) noWords [])
+            write-is : cameTo v l (write k o bs) ≡ outcome v (plain true (written ∷ []) noWords [])
             unfolding groups action actionGroups writeAction outcome actionChecks
             write-is =
                 write-behind
@@ -183,7 +183,7 @@ module _ (v l : List ℕ) (k z : ℕ) where
   abbrev sizeRest : Checks
   sizeRest =
       (ltb fileBytes z, pastTheEnd)
-      ∷ cond (eqb z (fileOf (view (word v)) (word v 0) (word v 1) k .size)) [] (roomChecks (view (word v)) (word v 0) (word v 1) (resized ∷ []))
+      ∷ cond (eqb z (fileOf (view (word v)) (word v 0) (word v 1) k .size)) [] (spaceChecks (view (word v)) (word v 0) (word v 1) true (resized ∷ []))
 
   size-own : ownChecks v (setSize k z) ≡ (noFile (view (word v)) (word v 0) (word v 1) k, notThere) ∷ sizeRest
   unfolding checks action actionChecks sizeAction
@@ -227,7 +227,7 @@ module _ (v l : List ℕ) (k z : ℕ) where
               let o = kept-few (word v) t s z n ds w in
               file-ready v l h k s marks t (a .state s e) f z′ d q es (take n ds) (omega arith) (omega arith) (omega arith) (omega arith) (omega arith)
 
-          size-is : cameTo v l (setSize k z) ≡ outcome v (plain (resized ∷ []) noWords [])
+          size-is : cameTo v l (setSize k z) ≡ outcome v (plain true (resized ∷ []) noWords [])
           unfolding groups action actionGroups sizeAction outcome actionChecks
           size-is =
               size-behind ∙ rw (le-ltb 65536 z i, old-size, ne-eqb z s y, closed-view (word v) (a .state s e .closed))

@@ -41,15 +41,15 @@ impl Kind {
         Kind::Recover,
     ];
 
-    /// The call's name, and the refusals that document 01 gives it.
+    /// The call's name, and the refusals that documents 01 and 02 give it.
     pub fn told(self) -> (&'static str, &'static [u64]) {
         match self {
-            Kind::Create => ("create", &[1, 2, 3, 4, 5, 7, 10, 11, 12]),
-            Kind::Link => ("link", &[1, 2, 3, 4, 5, 6, 7, 11, 12]),
+            Kind::Create => ("create", &[1, 2, 3, 4, 5, 7, 10, 11, 12, 15]),
+            Kind::Link => ("link", &[1, 2, 3, 4, 5, 6, 7, 11, 12, 15]),
             Kind::Unlink => ("unlink", &[1, 2, 3, 4, 5, 6, 12]),
             Kind::Rename => ("rename", &[1, 2, 3, 4, 5, 6, 12]),
-            Kind::Write => ("write", &[1, 2, 3, 4, 6, 8, 9, 12]),
-            Kind::SetSize => ("set size", &[1, 2, 3, 4, 6, 9, 12]),
+            Kind::Write => ("write", &[1, 2, 3, 4, 6, 8, 9, 12, 15]),
+            Kind::SetSize => ("set size", &[1, 2, 3, 4, 6, 9, 12, 15]),
             Kind::Clean => ("clean", &[1, 2, 3, 4, 6, 12]),
             Kind::Recover => ("recover", &[1, 2, 3]),
         }
@@ -88,17 +88,20 @@ impl Kind {
 }
 
 /// A call, the volume and the list that are lent to it, and what the reference makes of them.
-struct Made {
-    volume: Vec<u8>,
-    call: Call,
+pub struct Made {
+    /// The volume.
+    pub volume: Vec<u8>,
+    /// The call.
+    pub call: Call,
     before: Vec<u64>,
     after: Vec<u64>,
-    answer: Answer,
+    /// The answer.
+    pub answer: Answer,
 }
 
 impl Made {
     /// Makes a call of this kind on a volume, with a list of so many words.
-    fn new(kind: Kind, volume: Vec<u8>, words: u64, random: &mut Random) -> Made {
+    pub fn new(kind: Kind, volume: Vec<u8>, words: u64, random: &mut Random) -> Made {
         let call = kind.call(&standing(&volume), random);
         let before: Vec<u64> = (9_000..9_000 + words).collect();
         let mut after = before.clone();
@@ -113,7 +116,7 @@ impl Made {
     }
 
     /// Asks for the words that the call fills, from the words of the volume.
-    fn by_words(&self, name: &str) -> Sheet {
+    pub fn by_words(&self, name: &str) -> Sheet {
         let mut sheet = Sheet::new(name);
         let words = sheet.words(&self.volume);
         let (length, lent) = (self.volume.len(), self.before.len());

@@ -16,6 +16,7 @@
 
 mod arguments;
 mod changing;
+mod last_page;
 mod maps;
 mod module;
 mod outcome;

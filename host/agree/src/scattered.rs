@@ -4,7 +4,6 @@
 use crate::outcome::Outcome;
 use crate::sheet::{Equation, Sheet};
 use crate::{term, volumes};
-use reference::layout::{set_word, word};
 use reference::{free_count, judge, Call, Use, Volume};
 use samples::{appended_entries, filled, run, text, write, Random};
 
@@ -75,12 +74,12 @@ impl Write {
         })
     }
 
-    /// The same write on a volume with one more page, which is free.
-    fn with_a_page_more(&self) -> Write {
-        let mut volume = self.volume.clone();
-        volume.extend([0; 512]);
-        set_word(&mut volume, 0, word(&self.volume, 0) + 1);
-        Write { volume, ..*self }
+    /// What the write needs: what it takes where two more pages are free, so that it may lack one
+    /// and leaves one. None where it lacks more, or where the two make a run that is long enough.
+    fn needed(&self) -> Option<Taken> {
+        let volume = volumes::with_pages_more(&self.volume, 2);
+        let taken = Write { volume, ..*self }.taken()?;
+        (taken.entries >= 2).then_some(taken)
     }
 
     /// The places in a page of which a long write's words are asked for: the first, the last, and those at which the bytes written begin
@@ -126,8 +125,9 @@ fn some_values(pages: &[u64], places: &[u64], list: &[u64]) -> Vec<u64> {
     pairs.flat_map(|pair| [pair[0], value(pair)]).collect()
 }
 
-/// A write that is done, or refused because a single page lacks, for the data or for the log. It has two entries or more, and takes at
-/// least so many fresh log pages; where a page lacks, this is asked of the write with a page more.
+/// A write that is done, or refused because a single page lacks, for the data or for the log (12),
+/// or because none would be left (15). It has two entries or more, and needs at least so many fresh
+/// log pages.
 pub fn scattered(
     outcome: Outcome,
     log_pages: usize,
@@ -136,19 +136,17 @@ pub fn scattered(
 ) -> Option<Sheet> {
     let write = Write::drawn(random)?;
     let came = Outcome::of(filled(&write.volume, &write.call()));
-    let taken = match came {
-        Outcome::Refused(12) => write.with_a_page_more().taken()?,
-        _ => write.taken()?,
-    };
-    let wanted = came == outcome && taken.entries >= 2 && taken.log_pages >= log_pages;
+    let wanted = came == outcome && write.needed()?.log_pages >= log_pages;
     wanted.then(|| write.asked(name, random))
 }
 
 #[cfg(test)]
 mod tests {
     use super::Write;
+    use crate::outcome::Outcome;
     use reference::{free_count, judge};
-    use samples::Random;
+    use samples::{filled, Random};
+    use std::cmp::Ordering;
     use std::collections::BTreeSet;
 
     /// Many writes.
@@ -182,18 +180,29 @@ mod tests {
         assert_eq!(log_pages, BTreeSet::from([0, 1, 2]));
     }
 
-    /// A page lacks for the data, for the only log page, and for one of two.
+    /// Order 4: with as many free pages as needed a write is refused with 15, with fewer with 12,
+    /// with more it is done. Each comes about with no log page, with one and with two.
     #[test]
-    fn every_kind_of_page_lacks() {
-        let mut lacking = BTreeSet::new();
-        for write in writes().filter(|write| write.taken().is_none()) {
-            let Some(taken) = write.with_a_page_more().taken() else {
+    fn the_free_pages_decide() {
+        let mut seen = BTreeSet::new();
+        for write in writes() {
+            let Some(needed) = write.needed() else {
                 continue;
             };
-            let wanted = taken.data.len() + taken.log_pages;
-            assert_eq!(free_count(&write.volume), Ok(wanted as u64 - 1));
-            lacking.insert(taken.log_pages);
+            let pages = (needed.data.len() + needed.log_pages) as u64;
+            let free = free_count(&write.volume).expect("the volume is accepted");
+            assert!(free + 1 >= pages, "at most one lacks");
+            let expected = match free.cmp(&pages) {
+                Ordering::Less => Outcome::Refused(12),
+                Ordering::Equal => Outcome::Refused(15),
+                Ordering::Greater => Outcome::Done,
+            };
+            let came = Outcome::of(filled(&write.volume, &write.call()));
+            assert_eq!(came, expected, "{pages} of {free}");
+            seen.insert((came, needed.log_pages));
         }
-        assert_eq!(lacking, BTreeSet::from([0, 1, 2]));
+        let all = [Outcome::Done, Outcome::Refused(12), Outcome::Refused(15)];
+        let all = all.map(|outcome| [0, 1, 2].map(|log_pages| (outcome, log_pages)));
+        assert_eq!(seen, all.into_iter().flatten().collect());
     }
 }

@@ -1,9 +1,10 @@
 //! The strata: pairs of a call and what it comes to.
 
+use crate::last_page::Pages;
 use crate::outcome::Outcome;
 use crate::sheet::Sheet;
 use crate::storing::Spoiled;
-use crate::{changing, maps, reading, scattered, storing};
+use crate::{changing, last_page, maps, reading, scattered, storing};
 use reference::Refusal;
 use samples::Random;
 
@@ -75,6 +76,7 @@ impl Stratum {
 pub fn strata() -> Vec<Stratum> {
     let mut all = of_changing();
     all.extend(of_scattered());
+    all.extend(of_last_page());
     all.extend(of_reading());
     all.extend(of_storing());
     all.extend(of_cuts());
@@ -111,16 +113,69 @@ fn of_changing() -> Vec<Stratum> {
 }
 
 /// Writes that find no run of free pages and take them in several pieces: with any number of fresh log
-/// pages, and with two, which few of them need.
+/// pages, and with two, which few of them need. They are done, lack a page, or would leave none.
 fn of_scattered() -> Vec<Stratum> {
+    let shapes = [
+        (Outcome::Done, 0, "scattered"),
+        (Outcome::Done, 2, "two log pages"),
+        (Outcome::Refused(12), 0, "scattered"),
+        (Outcome::Refused(12), 2, "two log pages"),
+        (Outcome::Refused(15), 0, "scattered"),
+    ];
     let mut all = Vec::new();
-    for outcome in [Outcome::Done, Outcome::Refused(12)] {
-        for (log_pages, detail) in [(0, "scattered"), (2, "two log pages")] {
-            let draw = move |name: &str, random: &mut Random| {
-                scattered::scattered(outcome, log_pages, name, random)
-            };
-            all.push(Stratum::new("write", outcome, draw).with(detail));
-        }
+    for (outcome, log_pages, detail) in shapes {
+        let draw = move |name: &str, random: &mut Random| {
+            scattered::scattered(outcome, log_pages, name, random)
+        };
+        all.push(Stratum::new("write", outcome, draw).with(detail));
+    }
+    all
+}
+
+/// Calls on volumes with few free pages. Create, link, write and set size leave one or are refused;
+/// with no page to take they are done however few are free. Unlink, rename and clean take the last.
+fn of_last_page() -> Vec<Stratum> {
+    use changing::Kind::{Clean, Create, Link, Rename, SetSize, Unlink, Write};
+    use Outcome::{Done, Refused, Unchanged};
+    let pages = |free, data, log| Pages {
+        free,
+        data,
+        log,
+        let_go: 0,
+    };
+    let freeing = |pages| Pages { let_go: 1, ..pages };
+    let mut rows = Vec::new();
+    for (kind, outcome) in [
+        (Create, Done),
+        (Link, Done),
+        (Write, Unchanged), // a write that takes no page has no bytes
+        (SetSize, Done),
+    ] {
+        rows.push((kind, outcome, pages(0, 0, 0), "no free page"));
+        rows.push((kind, outcome, pages(1, 0, 0), "one free page"));
+    }
+    rows.extend([
+        (Create, Done, pages(2, 0, 1), "a page left"),
+        (Link, Done, pages(2, 0, 1), "a page left"),
+        (Write, Done, pages(3, 1, 1), "a page left"),
+        (SetSize, Done, pages(2, 1, 0), "a page left"),
+        (Write, Refused(12), pages(0, 1, 0), "no free page"),
+        (SetSize, Refused(12), pages(0, 1, 0), "no free page"),
+        (Write, Refused(15), freeing(pages(1, 1, 0)), "over a page"),
+        (Write, Refused(15), pages(2, 2, 0), "data pages"),
+        (Write, Refused(15), pages(2, 1, 1), "data and log page"),
+        (SetSize, Refused(15), pages(1, 1, 0), "copied page"),
+        (SetSize, Refused(15), freeing(pages(1, 0, 1)), "log page"),
+        (Unlink, Done, pages(1, 0, 1), "last page"),
+        (Rename, Done, pages(1, 0, 1), "last page"),
+        (Clean, Done, pages(1, 0, 1), "last page"),
+    ]);
+    let mut all = Vec::new();
+    for (kind, outcome, pages, detail) in rows {
+        let draw = move |name: &str, random: &mut Random| {
+            last_page::near(kind, outcome, pages, name, random)
+        };
+        all.push(Stratum::new(kind.told().0, outcome, draw).with(detail));
     }
     all
 }

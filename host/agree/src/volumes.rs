@@ -9,8 +9,8 @@ use reference::layout::{set_word, word};
 use reference::{cut, format, free_count, groups, land, Call};
 use samples::{
     any_call, any_number, change_live_word, clean, create, entry_add, filled, flip_live_bit,
-    formatted, headed_noise, live_words, made_up_sized, map_of, put_log, random_cut, run, set_size,
-    with_free_pages, write, Random,
+    formatted, headed_noise, live_words, made_up_sized, map_of, put_log, random_cut, rename, run,
+    set_size, with_free_pages, write, FewFree, Random,
 };
 
 /// A volume on which a call may well come to this.
@@ -21,7 +21,7 @@ pub fn towards(outcome: Outcome, random: &mut Random) -> Vec<u8> {
         Outcome::Refused(3) => damaged(random),
         Outcome::Refused(4) => left_open(random),
         Outcome::Refused(11) => full_directory(random),
-        Outcome::Refused(12) => crowded(random),
+        Outcome::Refused(12 | 15) => crowded(random),
         _ => used(random),
     }
 }
@@ -171,16 +171,21 @@ pub fn unheaded(random: &mut Random) -> Vec<u8> {
     volume
 }
 
-/// A volume with hardly a free page left.
+/// A volume with hardly a free page left. Writes leave one; in every second volume the directory's
+/// log, which renames make longer, takes it.
 pub fn crowded(random: &mut Random) -> Vec<u8> {
     let mut volume = used(random);
+    let takes_last = random.once_in(2);
     for _ in 0..40 {
         let Ok(free @ 1..) = free_count(&volume) else {
             break;
         };
-        let files: Vec<u64> = map_of(&volume).files.into_keys().collect();
-        let call = match random.choose(&files) {
-            Some(&inode) => {
+        let map = map_of(&volume);
+        let call = match random.choose(&map.names) {
+            Some((name, _)) if free == 1 && takes_last => {
+                rename(name, &[b'a' + random.below(26) as u8])
+            }
+            Some(&(_, inode)) => {
                 let pages = random.between(1, free.min(4));
                 let bytes = vec![5; 512 * pages as usize];
                 write(inode, 512 * random.below(60), &bytes)
@@ -190,6 +195,29 @@ pub fn crowded(random: &mut Random) -> Vec<u8> {
         let _ = run(&mut volume, &call);
     }
     volume
+}
+
+/// A volume with so many free pages, 0 to 3, and any number of entries in the tail's page of the
+/// directory and of a file's log.
+pub fn few_free(free: u64, random: &mut Random) -> Vec<u8> {
+    let (pages, inodes) = sizes(random);
+    let few = FewFree {
+        pages,
+        inodes,
+        free,
+        directory: random.between(1, 7),
+        file: random.below(8),
+        more_names: random.below(3),
+    };
+    few.volume(random)
+}
+
+/// The same volume with so many more pages, which are free.
+pub fn with_pages_more(volume: &[u8], count: u64) -> Vec<u8> {
+    let mut longer = volume.to_vec();
+    longer.resize(volume.len() + 512 * count as usize, 0);
+    set_word(&mut longer, 0, word(volume, 0) + count);
+    longer
 }
 
 /// A volume whose free pages lie in pieces, so that a write may find no run. The file "a" has data pages; in every

@@ -89,9 +89,10 @@ fn with_names(
 
 /// Create: fills a list that adds a name with the lowest invalid inode, an empty file.
 ///
-/// Answers the count of words filled. The refusals are 1 (short memory: a list under 4,096 words), 2 (no
-/// volume), 3 (damaged), 4 (journal open), 5 (bad name), 7 (taken), 10 (no inode), 11 (directory full) and 12
-/// (no space).
+/// Answers the count of words filled. The refusals are 1 (short memory: a list under 4,096 words),
+/// 2 (no volume), 3 (damaged), 4 (journal open), 5 (bad name), 7 (taken), 10 (no inode), 11
+/// (directory full), 12 (no space) and 15 (last page: the directory's log would take the last free
+/// one).
 ///
 /// ```
 /// use calls::{carry_out, create, find, format, Refusal};
@@ -114,8 +115,9 @@ pub fn create(volume: &[u8], name: &[u8], list: &mut [u64]) -> Answer {
 
 /// Link: fills a list that adds the new name with the old one's inode.
 ///
-/// Answers the count of words filled. The refusals are 1 to 5 as for [`create`], 6 (not there: the old name), 7
-/// (taken: the new name), 11 (directory full) and 12 (no space).
+/// Answers the count of words filled. The refusals are 1 to 5 as for [`create`], 6 (not there: the
+/// old name), 7 (taken: the new name), 11 (directory full), 12 (no space) and 15 (last page: the
+/// directory's log would take the last free one).
 ///
 /// ```
 /// use calls::{carry_out, create, find, format, link, Refusal};
@@ -188,9 +190,10 @@ pub fn rename(volume: &[u8], old: &[u8], new: &[u8], list: &mut [u64]) -> Answer
 /// Write: fills a list that lays the bytes over the file's from the offset on, in fresh data pages: the lowest run of
 /// free pages that is long enough or, where there is none, the lowest free pages.
 ///
-/// Answers the count of words filled, 0 if there are no bytes. The refusals are 1 to 4 as for [`create`], 6 (not
-/// there), 8 (long write: over 4,096 bytes), 9 (past the end: offset and length over 65,536) and 12 (no
-/// space: fewer free pages than data and log need).
+/// Answers the count of words filled, 0 if there are no bytes. The refusals are 1 to 4 as for
+/// [`create`], 6 (not there), 8 (long write: over 4,096 bytes), 9 (past the end: offset and length
+/// over 65,536), 12 (no space: fewer free pages than data and log need) and 15 (last page: exactly
+/// as many, so that none would be left).
 ///
 /// ```
 /// use calls::{carry_out, create, format, read, write, Refusal};
@@ -227,8 +230,9 @@ pub fn write(volume: &[u8], inode: u64, offset: u64, bytes: &[u8], list: &mut [u
 
 /// Set size: fills a list that cuts or lengthens a file to a size.
 ///
-/// Answers the count of words filled, 0 if the file has that size. The refusals are 1 to 4 as for [`create`], 6
-/// (not there), 9 (past the end: over 65,536) and 12 (no space).
+/// Answers the count of words filled, 0 if the file has that size. The refusals are 1 to 4 as for
+/// [`create`], 6 (not there), 9 (past the end: over 65,536), 12 (no space) and 15 (last page: a
+/// copied page or the log would take the last free one).
 ///
 /// ```
 /// use calls::{carry_out, create, format, set_size, size, Refusal};

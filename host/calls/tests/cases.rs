@@ -1,20 +1,9 @@
 //! Cases A to M of document 01 on the compiled calls.
 
-mod compiled;
+mod library;
 
-use samples::{cases, check_case, Library};
-
-/// The compiled calls.
-const COMPILED: Library = Library {
-    fill: compiled::fill,
-    carry_out: calls::carry_out,
-    find: calls::find,
-    size: calls::size,
-    read: calls::read,
-    kth_name: calls::kth_name,
-    free_count: calls::free_count,
-    gaps: calls::gaps,
-};
+use library::COMPILED;
+use samples::{cases, check_case};
 
 #[test]
 fn every_case() {

@@ -7,7 +7,8 @@
 //! - Refusal 5: names of 33 bytes and more. (Empty names and names with "/" or a 0 byte are no names of a
 //!   folder's entries on the host either, and are left out there.)
 //! - Refusals 8 and 9: writes over 4,096 bytes, files over 65,536 bytes.
-//! - Refusals 10, 11 and 12: no inode, a 225th name, no space; the host has room.
+//! - Refusals 10, 11, 12 and 15: no inode, a 225th name, no space, the last page kept back; the
+//!   host has room.
 //! - Refusal 6 for an inode: the volume has no open files, so a file is named by its inode, and one without a
 //!   name is gone. On the host the file is opened by one of its names for the call alone.
 //! - "." and ".." are names like others on a volume, and are left out here.
@@ -224,7 +225,7 @@ fn the_host_does_the_same() {
         counts.done > 2_500 && counts.both_refused > 300,
         "{counts:?}"
     );
-    for number in [5, 6, 8, 9, 10, 12] {
+    for number in [5, 6, 8, 9, 10, 12, 15] {
         let times = counts.narrower.get(&number).copied().unwrap_or(0);
         assert!(times > 20, "{number}: {counts:?}");
     }

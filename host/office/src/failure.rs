@@ -1,6 +1,6 @@
 //! What ends a command before it is done: the exit status, the line on standard error and the advice.
 
-use crate::text::complain;
+use crate::text::{complain, counted};
 use refusal::Refusal;
 
 /// What a command answers.
@@ -17,6 +17,17 @@ pub enum Failure {
         refusal: Refusal,
         /// What to do about it.
         advice: String,
+    },
+    /// The volume would do it, but be left with too few free pages. Exit status 1.
+    Kept {
+        /// What was asked for: a name, or two.
+        what: String,
+        /// The free pages that it would leave.
+        free: u64,
+        /// The free pages that are kept, at the least.
+        kept: u64,
+        /// The volume's path, as shown.
+        volume: String,
     },
     /// The command line is wrong, whatever the files hold. Exit status 2.
     Use(String),
@@ -39,12 +50,23 @@ impl Failure {
     /// The exit status of a command that ends so.
     pub fn status(&self) -> u8 {
         match self {
-            Failure::Refused { .. } => 1,
+            Failure::Refused { .. } | Failure::Kept { .. } => 1,
             Failure::Use(_) => 2,
             Failure::Host(_) => 3,
             Failure::Cut { .. } => 4,
             Failure::Said(status) => *status,
             Failure::Quiet => 0,
+        }
+    }
+
+    /// Whether more free pages, or shorter logs, might help.
+    pub fn is_for_room(&self) -> bool {
+        match self {
+            Failure::Refused { refusal, .. } => {
+                matches!(refusal, Refusal::NoSpace | Refusal::LastPage)
+            }
+            Failure::Kept { .. } => true,
+            _ => false,
         }
     }
 
@@ -56,6 +78,17 @@ impl Failure {
                 refusal,
                 advice,
             } => complain(&format!("{what}: {}; {advice}", refused(*refusal))),
+            Failure::Kept {
+                what,
+                free,
+                kept,
+                volume,
+            } => complain(&format!(
+                "{what}: would leave {}, and at least {kept} are kept so that logs can be cleaned \
+                 and files removed; {}",
+                counted(*free, "free page"),
+                make_room(volume)
+            )),
             Failure::Use(what) => complain(&format!("{what}; see office --help")),
             Failure::Host(what) => complain(what),
             Failure::Cut { group, volume } => complain(&format!(
@@ -93,9 +126,17 @@ pub fn advice(refusal: Refusal, volume: &str) -> String {
         Refusal::DirectoryFull => {
             format!("224 names stand already; remove some with 'office rm {volume} NAME'")
         }
-        Refusal::NoSpace => format!("remove files, or run 'office clean {volume}'"),
+        Refusal::NoSpace | Refusal::LastPage => make_room(volume),
         Refusal::ShortMemory | Refusal::LongWrite | Refusal::BadList | Refusal::TooManyGaps => {
             "the tool asked wrongly; nothing was stored".into()
         }
     }
+}
+
+/// What to do where there is no room, not even with cleaned logs.
+fn make_room(volume: &str) -> String {
+    format!(
+        "cleaning logs gives back too little; remove files with 'office rm {volume} NAME', \
+         or take a larger volume"
+    )
 }

@@ -12,9 +12,9 @@
 //!
 //! Only [`show`], which stores nothing, reads through the reference model.
 //!
-//! The modules, top-down: [`commands`] (what each command does), [`store`] (the volume in its file), [`disk`] (words
-//! stored in a file), [`show`] (what a volume looks like), [`files`] (files of the host), [`arguments`], [`help`],
-//! [`failure`], [`progress`] and [`text`].
+//! The modules, top-down: [`commands`] (what each command does), [`room`] (pages kept free, and logs cleaned to make
+//! room), [`store`] (the volume in its file), [`disk`] (words stored in a file), [`show`] (what a volume looks like),
+//! [`files`] (files of the host), [`arguments`], [`help`], [`failure`], [`progress`] and [`text`].
 //!
 //! # Example
 //!
@@ -51,6 +51,7 @@ pub mod failure;
 pub mod files;
 pub mod help;
 pub mod progress;
+pub mod room;
 pub mod show;
 pub mod store;
 pub mod text;

@@ -1,10 +1,11 @@
 //! A volume in a file of the host: opened and locked, and changed group by group.
 
 use crate::disk::{land_group, write_stores, Disk};
-use crate::failure::{advice, Failure};
+use crate::failure::{advice, Failure, Outcome};
 use crate::files::is_file_of;
+use crate::room::{is_stuck, way_out};
 use crate::text::{complain, shown_path};
-use calls::layout::{LIST_WORDS, VOLUME_LIMIT};
+use calls::layout::{LIST_WORDS, NAME_BYTES, VOLUME_LIMIT};
 use calls::list::{groups, Store as WordStore};
 use refusal::{Answer, Refusal};
 use std::fs::{File, OpenOptions, TryLockError};
@@ -90,10 +91,22 @@ impl Store {
 
     /// The failure of a command whose call was refused; `what` is what the call was about.
     ///
-    /// Refusals of the volume itself are said of the volume.
+    /// Refusals of the volume itself are said of the volume. Where nothing makes room any more, the
+    /// advice is not to remove files, but the way out.
     pub fn refused(&self, what: &str, refusal: Refusal) -> Failure {
         let volume = self.shown();
-        let advice = advice(refusal, &volume);
+        let advice = match refusal {
+            Refusal::Taken
+            | Refusal::NoInode
+            | Refusal::DirectoryFull
+            | Refusal::NoSpace
+            | Refusal::LastPage
+                if is_stuck(&self.volume) =>
+            {
+                way_out(&self.volume, &volume)
+            }
+            _ => advice(refusal, &volume),
+        };
         let what = match refusal {
             Refusal::NoVolume | Refusal::Damaged | Refusal::JournalOpen => volume,
             _ => what.to_owned(),
@@ -118,6 +131,19 @@ impl Store {
         }
     }
 
+    /// Makes a changing call in a plan of this volume; `what` is what the call is about (see
+    /// [`Store::refused`]).
+    pub fn ask(
+        &self,
+        plan: &mut Plan,
+        what: &str,
+        call: impl FnOnce(&[u8], &mut [u64]) -> Answer,
+    ) -> Outcome {
+        let asked = plan.call(call);
+        asked.map_err(|refusal| self.refused(what, refusal))?;
+        Ok(())
+    }
+
     /// Makes one changing call and stores its list in the file; answers the list, as far as it was filled.
     ///
     /// A refusal writes nothing; `what` is what the call is about (see [`Store::refused`]).
@@ -127,8 +153,7 @@ impl Store {
         call: impl FnOnce(&[u8], &mut [u64]) -> Answer,
     ) -> Result<Vec<u64>, Failure> {
         let mut plan = self.plan();
-        plan.call(call)
-            .map_err(|refusal| self.refused(what, refusal))?;
+        self.ask(&mut plan, what, call)?;
         let list = plan.lists.concat();
         self.carry_out(plan, |_| {})?;
         Ok(list)
@@ -194,21 +219,37 @@ pub struct Plan {
 }
 
 impl Plan {
-    /// Makes a changing call on the copy and keeps its list.
+    /// Makes a changing call on the copy and keeps its list, if it has any words; answers how many.
     ///
     /// A refusal leaves the plan as it was.
-    pub fn call(&mut self, call: impl FnOnce(&[u8], &mut [u64]) -> Answer) -> Result<(), Refusal> {
+    pub fn call(&mut self, call: impl FnOnce(&[u8], &mut [u64]) -> Answer) -> Answer {
         let mut list = vec![0; LIST_WORDS];
         let count = call(&self.volume, &mut list)?;
-        calls::carry_out(&mut self.volume, &list, count)?;
-        list.truncate(count as usize);
-        self.lists.push(list);
-        Ok(())
+        if count > 0 {
+            calls::carry_out(&mut self.volume, &list, count)?;
+            list.truncate(count as usize);
+            self.lists.push(list);
+        }
+        Ok(count)
     }
 
     /// The volume as the calls so far leave it.
     pub fn volume(&self) -> &[u8] {
         &self.volume
+    }
+}
+
+/// The names of a volume, in list order.
+pub fn names_of(volume: &[u8]) -> Result<Vec<Vec<u8>>, Refusal> {
+    let mut names = Vec::new();
+    loop {
+        let mut name = vec![0; NAME_BYTES];
+        match calls::kth_name(volume, names.len() as u64, &mut name) {
+            Ok(length) => name.truncate(length as usize),
+            Err(Refusal::NotThere) => return Ok(names),
+            Err(refusal) => return Err(refusal),
+        }
+        names.push(name);
     }
 }
 

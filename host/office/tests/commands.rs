@@ -6,8 +6,8 @@ use office::commands::PART;
 use reference::layout::{tail_word, word, DIRECTORY};
 use reference::listing;
 use samples::{
-    create, done, formatted, map_of, set_size, text, unlink, volumes_with_gaps, with_free_pages,
-    write,
+    create, done, formatted, map_of, rename, set_size, text, unlink, volumes_with_gaps,
+    with_free_pages, write,
 };
 use std::ffi::OsStr;
 use std::fs;
@@ -120,14 +120,15 @@ fn put_over_one_of_two_names() {
     assert_eq!(folder.map(), all);
 }
 
-/// A folder with a volume of scattered gaps into which "c" (4,097 bytes) and "d" (5,000 bytes) were put.
+/// A folder with a volume of scattered gaps into which "c" (3,073 bytes) and "d" (5,000 bytes) were
+/// put.
 fn with_scattered_files(test: &str) -> Folder {
     let folder = Folder::with_scattered_gaps(test);
-    folder.write("c", &text(4_097));
+    folder.write("c", &text(3_073));
     folder.write("d", &text(5_000));
     folder.says(
         &["put", "v", "c", "d"],
-        "2 files put, 9,097 bytes; 1 page free\n",
+        "2 files put, 8,073 bytes; 3 pages free\n",
     );
     folder
 }
@@ -138,7 +139,7 @@ fn put_into_scattered_gaps() {
     let gaps = String::from_utf8(folder.done(&["gaps", "v"])).expect("text");
     let end = "\nlongest: 2 pages, 10-11\ntotal: 23 free pages in 12 stretches\n";
     assert!(gaps.ends_with(end), "{gaps}");
-    let put = [("c", 4_097), ("d", 5_000)].map(|(name, size)| (name.into(), text(size)));
+    let put = [("c", 3_073), ("d", 5_000)].map(|(name, size)| (name.into(), text(size)));
     let calls = calls_of_put(&folder.read("v"), &put);
     let map = maps_of_calls(&folder.read("v"), &calls).pop();
 
@@ -146,9 +147,9 @@ fn put_into_scattered_gaps() {
     assert_eq!(Some(folder.map()), map);
     folder.says(
         &["check", "v"],
-        "accepted: 14 names, 1 free page, journal closed\n",
+        "accepted: 14 names, 3 free pages, journal closed\n",
     );
-    for (name, size) in [("c", 4_097), ("d", 5_000)] {
+    for (name, size) in [("c", 3_073), ("d", 5_000)] {
         assert!(
             folder.done(&["get", "v", name, "-"]) == text(size),
             "{name}"
@@ -156,53 +157,57 @@ fn put_into_scattered_gaps() {
     }
 }
 
-/// A write has an entry for each stretch that it takes. The end of "d" finds a run, 59 and 60, and takes it though 55 is free.
+/// A write has an entry for each stretch that it takes. The end of "d" finds a run, 54 and 55, and
+/// takes it though 50 is free.
 #[test]
 fn log_of_scattered_writes() {
     let folder = with_scattered_files("log-scattered");
     let text = "\
-inode 1, file, name \"c\", size 4097: log of 5 entries on 1 page, head 30, tail 15680
-page 30, entry 1: write: file pages 0-1 on data pages 10-11, size 4096
-page 30, entry 2: write: file pages 2-3 on data pages 15-16, size 4096
-page 30, entry 3: write: file pages 4-5 on data pages 20-21, size 4096
-page 30, entry 4: write: file pages 6-7 on data pages 25-26, size 4096
-page 30, entry 5: write: file page 8 on data page 31, size 4097
+inode 1, file, name \"c\", size 3073: log of 4 entries on 1 page, head 26, tail 13568
+page 26, entry 1: write: file pages 0-1 on data pages 10-11, size 3073
+page 26, entry 2: write: file pages 2-3 on data pages 15-16, size 3073
+page 26, entry 3: write: file pages 4-5 on data pages 20-21, size 3073
+page 26, entry 4: write: file page 6 on data page 25, size 3073
 ";
     folder.says(&["log", "v", "c"], text);
     let text = "\
-inode 3, file, name \"d\", size 5000: log of 5 entries on 1 page, head 54, tail 27968
-page 54, entry 1: write: file pages 0-1 on data pages 35-36, size 4096
-page 54, entry 2: write: file pages 2-3 on data pages 40-41, size 4096
-page 54, entry 3: write: file pages 4-5 on data pages 44-45, size 4096
-page 54, entry 4: write: file pages 6-7 on data pages 49-50, size 4096
-page 54, entry 5: write: file pages 8-9 on data pages 59-60, size 5000
+inode 3, file, name \"d\", size 5000: log of 5 entries on 1 page, head 49, tail 25408
+page 49, entry 1: write: file pages 0-1 on data pages 30-31, size 4096
+page 49, entry 2: write: file pages 2-3 on data pages 35-36, size 4096
+page 49, entry 3: write: file pages 4-5 on data pages 40-41, size 4096
+page 49, entry 4: write: file pages 6-7 on data pages 44-45, size 4096
+page 49, entry 5: write: file pages 8-9 on data pages 54-55, size 5000
 ";
     folder.says(&["log", "v", "d"], text);
 }
 
-/// 23 pages are free: 20 for the data, two for the file's log, one for the directory's. One byte more needs another page.
+/// 23 pages are free, and ten more once the directory's log is cleaned: 26 for the data, two for the
+/// file's log, one for the directory's, and four are kept. One byte more needs another page.
 #[test]
 fn put_fills_every_gap_or_stores_nothing() {
     let folder = Folder::with_scattered_gaps("put-fills");
     let before = folder.read("v");
-    folder.write("large", &text(10_241));
-    let line = "office: large: refused 12 (no space); remove files, or run 'office clean v'\n";
+    folder.write("large", &text(13_313));
+    let line = "office: large: refused 12 (no space); cleaning logs gives back too little; \
+                remove files with 'office rm v NAME', or take a larger volume\n";
     folder.fails(&["put", "v", "large"], 1, line);
     assert!(folder.read("v") == before, "refused whole");
-    folder.write("large", &text(10_240));
-    folder.says(
+    folder.write("large", &text(13_312));
+    folder.says_cleaned(
         &["put", "v", "large"],
-        "1 file put, 10,240 bytes; 0 pages free\n",
+        "1 file put, 13,312 bytes; 4 pages free\n",
+        "the directory's log",
     );
     folder.says(
         &["check", "v"],
-        "accepted: 13 names, 0 free pages, journal closed\n",
+        "accepted: 13 names, 4 free pages, journal closed\n",
     );
-    assert!(folder.done(&["get", "v", "large", "-"]) == text(10_240));
+    assert!(folder.done(&["get", "v", "large", "-"]) == text(13_312));
     let log = String::from_utf8(folder.done(&["log", "v", "large"])).expect("text");
     let lines: Vec<&str> = log.lines().collect();
-    let head = "inode 1, file, name \"large\", size 10240: log of 11 entries on 2 pages, head 30, tail 25856";
-    assert_eq!((lines[0], lines.len()), (head, 1 + 11));
+    let head = "inode 1, file, name \"large\", size 13312: log of 12 entries on 2 pages, \
+                head 21, tail 18752";
+    assert_eq!((lines[0], lines.len()), (head, 1 + 12));
     assert!(lines[1..].iter().all(|line| line.contains(": write: ")));
 }
 
@@ -414,7 +419,10 @@ fn clean_skips_where_there_is_no_room() {
     let mut volume = formatted(16, 8);
     done(&mut volume, &create(b"a"));
     done(&mut volume, &write(1, 0, &text(4_096)));
-    done(&mut volume, &write(1, 4_096, &text(2_048)));
+    done(&mut volume, &write(1, 4_096, &text(1_536)));
+    for (old, new) in [(b"a", b"b"), (b"b", b"a"), (b"a", b"b"), (b"b", b"a")] {
+        done(&mut volume, &rename(old, new)); // the fourth takes the last page
+    }
     folder.write("v", &volume);
     let ran = folder.office(&["clean", "v"]);
     let lines = "office: inode 0: skipped, no room for its new log: refused 12 (no space)\n\

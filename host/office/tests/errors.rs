@@ -68,7 +68,8 @@ fn refused_by_the_volume() {
 fn refused_for_want_of_room() {
     let folder = with_file("no-room");
     folder.write("large", &text(7_000));
-    let space = "refused 12 (no space); remove files, or run 'office clean v'";
+    let space = "refused 12 (no space); cleaning logs gives back too little; \
+                 remove files with 'office rm v NAME', or take a larger volume";
     each_fails(
         &folder,
         1,
@@ -103,7 +104,8 @@ fn refused_in_the_middle_says_how_far() {
     let ran = folder.office(&["put", "v", "day"]);
     let lines = "office: in the volume: a, b\n\
                  office: not put: c, d\n\
-                 office: c: refused 12 (no space); remove files, or run 'office clean v'\n";
+                 office: c: refused 12 (no space); cleaning logs gives back too little; \
+                 remove files with 'office rm v NAME', or take a larger volume\n";
     assert_eq!((ran.status, ran.err.as_str()), (1, lines));
     assert_eq!(ran.out, b"");
     let both = files(&[("a", 1, &text(10)), ("b", 2, &text(600))]);
@@ -524,7 +526,8 @@ fn one_command_of_help() {
 office rm VOLUME NAME.. [--cut GROUP]
 
 Removes each NAME; a file left without a name goes. If one of them is refused,
-none is removed. A power cut leaves the first ones removed.
+none is removed. A power cut leaves the first ones removed. Where there is no
+room, rm cleans logs first, if that helps, and says which.
 
 Options:
   --cut GROUP     rehearse a battery swap: of this group of stores (from 1) every other one

@@ -96,7 +96,8 @@ fn an_error_stands_on_a_line_of_its_own() {
             "\r0 of 2 files, 4,096 bytes\r1 of 2 files, 4,096 bytes",
             "office: in the volume: a",
             "office: not put: b",
-            "office: b: refused 12 (no space); remove files, or run 'office clean v'",
+            "office: b: refused 12 (no space); cleaning logs gives back too little; \
+             remove files with 'office rm v NAME', or take a larger volume",
         ]
     );
 }

@@ -60,9 +60,17 @@ fn cut_everywhere(folder: &Folder, volume: &[u8], command: &[&str], calls: &[Cal
         recovered(folder, &map);
     }
     folder.write("v", volume);
-    let ran = cut(folder, command, groups.len() + 1);
+    let (status, said) = cut(folder, command, groups.len() + 1);
     let line = format!("no cut: the command had only {} groups", groups.len());
-    assert_eq!(ran, (0, format!("office: {line}\n")), "{command:?}");
+    let said = said.replace(
+        "office: room was made by cleaning the directory's log\n",
+        "",
+    );
+    assert_eq!(
+        (status, said),
+        (0, format!("office: {line}\n")),
+        "{command:?}"
+    );
     assert_eq!(Some(&folder.map()), maps.last(), "{command:?} run through");
     counts
 }
@@ -175,6 +183,21 @@ fn put_into_scattered_gaps() {
     let volume = folder.read("v");
     let counts = cut_put(&folder, &volume, "b01", 9_000);
     assert_eq!((counts.cut, counts.open), (4 + 3 * 2 + 4, 4));
+}
+
+/// The groups of the clean come first, and keep the map.
+#[test]
+fn put_that_cleans() {
+    let folder = Folder::new("cut-cleaning");
+    let volume = tool::with_long_logs(10, 1);
+    let bytes = text(1_000);
+    folder.write("a", &bytes);
+    let mut cleaned = volume.clone();
+    done(&mut cleaned, &clean(0));
+    let put = calls_of_put(&cleaned, &[(b"a".to_vec(), bytes)]);
+    let calls = [vec![clean(0)], put].concat();
+    let counts = cut_everywhere(&folder, &volume, &["put", "v", "a"], &calls);
+    assert_eq!((counts.cut, counts.open), (4 + 4 + 2 + 4, 6));
 }
 
 /// Cuts the put of a file of this name and size in each of its groups, from a volume.

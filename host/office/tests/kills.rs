@@ -9,11 +9,11 @@ mod tool;
 use office::commands::PART;
 use reference::random::Random;
 use reference::{judge, Call, FileMap};
-use samples::{clean, link, map_of, rename, set_size, unlink};
+use samples::{clean, done, link, map_of, rename, set_size, unlink};
 use std::fs;
 use std::os::unix::process::ExitStatusExt;
 use std::time::{Duration, Instant};
-use tool::{calls_of_put, maps_of_calls, without_part, Folder};
+use tool::{calls_of_put, maps_of_calls, with_long_logs, without_part, Folder};
 
 /// How many commands are killed, besides the recoveries.
 const ROUNDS: u64 = 400;
@@ -59,7 +59,8 @@ struct Planned {
 
 #[test]
 fn killed_commands() {
-    let folder = Folder::with_volume("kills", 256, 16);
+    // So large that every command has room.
+    let folder = Folder::with_volume("kills", 512, 16);
     let mut random = Random::new(41);
     let usual: Vec<Duration> = KINDS
         .iter()
@@ -287,6 +288,35 @@ fn recover_open(folder: &Folder, random: &mut Random, old: &str) -> Planned {
         arguments: words(&["recover", "v"]),
         maps: maps_of_calls(&volume, &[Call::Recover]),
     }
+}
+
+/// A put that cleans the directory's log first leaves the old file or the new too, and all others.
+#[test]
+fn killed_puts_that_clean() {
+    let folder = Folder::new("kills-cleaning");
+    let mut random = Random::new(42);
+    let volume = with_long_logs(10, 1);
+    let bytes = random.bytes(3_000);
+    folder.write("a", &bytes);
+    let mut cleaned = volume.clone();
+    done(&mut cleaned, &clean(0));
+    let planned = Planned {
+        arguments: words(&["put", "v", "a"]),
+        maps: maps_of_calls(&cleaned, &calls_of_put(&cleaned, &[(b"a".to_vec(), bytes)])),
+    };
+    folder.write("v", &volume);
+    let start = Instant::now();
+    assert_eq!(folder.office(&planned.arguments).status, 0);
+    let usual = start.elapsed();
+    let mut counts = Counts::default();
+    for _ in 0..60 {
+        folder.write("v", &volume);
+        let killed = run_killed(&folder, &mut random, &planned.arguments, usual);
+        let map = check_map(&folder, &planned, killed, &mut counts);
+        recover(&folder, &mut random, &map, usual, &mut counts);
+    }
+    println!("60 puts: {counts:?}");
+    assert!(counts.killed >= 5, "{counts:?}");
 }
 
 /// A killed format leaves the old file or the new.

@@ -40,7 +40,7 @@ pub fn format(volume: &mut [u8], pages: u64, inodes: u64) -> Result<(), Refusal>
 
 /// Create: adds a name with the lowest invalid inode, an empty file.
 ///
-/// The refusals are 1, 2, 3, 4, 5, 7, 10, 11 and 12.
+/// The refusals are 1, 2, 3, 4, 5, 7, 10, 11, 12 and 15.
 ///
 /// ```
 /// use reference::{carry_out, create, find, format, Refusal};
@@ -68,6 +68,7 @@ pub fn create(volume: &[u8], name: &[u8], list: &mut [u64]) -> Answer {
     change_names(
         &volume,
         list,
+        Space::keeping_one(&volume),
         &[add],
         empty_log,
         Some((valid_word(inode), 1)),
@@ -76,7 +77,7 @@ pub fn create(volume: &[u8], name: &[u8], list: &mut [u64]) -> Answer {
 
 /// Link: adds the new name with the old one's inode.
 ///
-/// The refusals are 1, 2, 3, 4, 5, 6, 7, 11 and 12.
+/// The refusals are 1, 2, 3, 4, 5, 6, 7, 11, 12 and 15.
 pub fn link(volume: &[u8], old: &[u8], new: &[u8], list: &mut [u64]) -> Answer {
     let volume = judge_for_change(volume, list)?;
     check_name(old)?;
@@ -84,8 +85,9 @@ pub fn link(volume: &[u8], old: &[u8], new: &[u8], list: &mut [u64]) -> Answer {
     let inode = find_name(&volume, old)?;
     check_absent(&volume, new)?;
     check_room_for_name(&volume)?;
+    let space = Space::keeping_one(&volume);
     let add = Entry::Add { inode, name: new };
-    change_names(&volume, list, &[add], Vec::new(), None)
+    change_names(&volume, list, space, &[add], Vec::new(), None)
 }
 
 /// Unlink: removes the name; a file left without a name goes.
@@ -96,7 +98,9 @@ pub fn unlink(volume: &[u8], name: &[u8], list: &mut [u64]) -> Answer {
     check_name(name)?;
     let inode = find_name(&volume, name)?;
     let gone = last_name_taken(&volume, inode);
-    change_names(&volume, list, &[Entry::Remove { name }], Vec::new(), gone)
+    let space = Space::of(&volume);
+    let remove = Entry::Remove { name };
+    change_names(&volume, list, space, &[remove], Vec::new(), gone)
 }
 
 /// Rename: removes the old name and adds the new with its inode; a file left without a name goes.
@@ -113,14 +117,15 @@ pub fn rename(volume: &[u8], old: &[u8], new: &[u8], list: &mut [u64]) -> Answer
     }
     let gone = replaced.and_then(|replaced| last_name_taken(&volume, replaced));
     let entries = [Entry::Remove { name: old }, Entry::Add { inode, name: new }];
-    change_names(&volume, list, &entries, Vec::new(), gone)
+    let space = Space::of(&volume);
+    change_names(&volume, list, space, &entries, Vec::new(), gone)
 }
 
 /// Write: lays the bytes over the file's from the offset on, in fresh data pages.
 ///
 /// 0 bytes changes nothing. The fresh pages may lie scattered: order 3, "It appends one write entry
 /// for each longest stretch among them, all with the final size, in file order." The refusals are
-/// 1, 2, 3, 4, 6, 8, 9 and 12.
+/// 1, 2, 3, 4, 6, 8, 9, 12 and 15.
 ///
 /// ```
 /// use reference::{carry_out, create, format, judge, unlink, write};
@@ -166,7 +171,7 @@ pub fn write(volume: &[u8], inode: u64, offset: u64, bytes: &[u8], list: &mut [u
     let start = (offset % PAGE_BYTES) as usize;
     fresh[start..start + bytes.len()].copy_from_slice(bytes);
 
-    let mut space = Space::of(&volume);
+    let mut space = Space::keeping_one(&volume);
     let pages = space.take_data_pages(count as usize)?;
     let mapped = (file_page..).zip(pages.iter().copied());
     let entries = write_entries(mapped, file.size.max(end));
@@ -182,7 +187,7 @@ pub fn write(volume: &[u8], inode: u64, offset: u64, bytes: &[u8], list: &mut [u
 
 /// Set size: cuts or lengthens the file to a size.
 ///
-/// The equal size changes nothing. The refusals are 1, 2, 3, 4, 6, 9 and 12.
+/// The equal size changes nothing. The refusals are 1, 2, 3, 4, 6, 9, 12 and 15.
 pub fn set_size(volume: &[u8], inode: u64, size: u64, list: &mut [u64]) -> Answer {
     let volume = judge_for_change(volume, list)?;
     let file = find_file(&volume, inode)?;
@@ -190,7 +195,7 @@ pub fn set_size(volume: &[u8], inode: u64, size: u64, list: &mut [u64]) -> Answe
     if size == file.size {
         return Ok(0);
     }
-    let mut space = Space::of(&volume);
+    let mut space = Space::keeping_one(&volume);
     let cut = Entry::SetSize { size };
     let file_page = size / PAGE_BYTES;
     let kept = (size % PAGE_BYTES) as usize;
@@ -311,11 +316,12 @@ fn last_name_taken(volume: &Volume<'_>, inode: u64) -> Option<Store> {
 fn change_names(
     volume: &Volume<'_>,
     list: &mut [u64],
+    mut space: Space,
     entries: &[Entry<'_>],
     mut preparation: Vec<Store>,
     valid: Option<Store>,
 ) -> Answer {
-    let appended = append(volume, &mut Space::of(volume), DIRECTORY, entries)?;
+    let appended = append(volume, &mut space, DIRECTORY, entries)?;
     preparation.extend(appended.stores);
     match valid {
         Some(valid) => commit_journalled(volume, list, preparation, &[appended.tail, valid]),

@@ -58,7 +58,7 @@ pub(crate) struct Appended {
 
 /// Appends entries to the log of a valid inode; the head is stored too if the tail was 0.
 ///
-/// The refusal is 12.
+/// The call takes no page after this. The refusals are 12 and 15.
 pub(crate) fn append(
     volume: &Volume<'_>,
     space: &mut Space,
@@ -66,6 +66,7 @@ pub(crate) fn append(
     entries: &[Entry<'_>],
 ) -> Result<Appended, Refusal> {
     let mut laid = lay(space, volume.word(tail_word(inode)), entries)?;
+    space.check_one_left()?;
     if let Some(head) = laid.head {
         laid.stores.push((head_word(inode), head));
     }

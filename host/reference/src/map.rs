@@ -68,7 +68,7 @@ impl FileMap {
 /// and the call's arguments.
 ///
 /// Where the map alone shows that the call is refused ([`refused_by_map`]), the map is kept. For
-/// refusals 1, 2, 3, 4 and 12, which it cannot show, the map is the one before.
+/// refusals 1, 2, 3, 4, 12 and 15, which it cannot show, the map is the one before.
 pub fn map_after(before: &FileMap, inodes: u64, call: &Call) -> FileMap {
     let mut map = before.clone();
     if refused_by_map(before, inodes, call).is_none() {
@@ -139,7 +139,7 @@ fn lay_over(file: &mut Vec<u8>, offset: usize, bytes: &[u8]) {
 /// The lowest of the refusals 5 to 11 that applies to a call, as the map before it shows; none if
 /// none does.
 ///
-/// Refusals 1 to 4 come before these and 12 after; the map cannot show them.
+/// Refusals 1 to 4 come before these, 12 and 15 after; the map cannot show them.
 pub fn refused_by_map(map: &FileMap, inodes: u64, call: &Call) -> Option<Refusal> {
     let stands = |name: &[u8]| map.inode_of(name).is_some();
     let valid = |inode: &u64| map.files.contains_key(inode);

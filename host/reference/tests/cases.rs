@@ -1,24 +1,15 @@
 //! Cases A to M of document 01 on the reference model, and what only the model shows of them.
 
-use reference::{judge, listing, Call, Use};
-use samples::{cases, check_case, clean, create, done, formatted, set_size, write, Library};
+mod library;
 
-/// The reference model's calls.
-const REFERENCE: Library = Library {
-    fill: Call::fill,
-    carry_out: reference::carry_out,
-    find: reference::find,
-    size: reference::size,
-    read: reference::read,
-    kth_name: reference::kth_name,
-    free_count: reference::free_count,
-    gaps: reference::gaps,
-};
+use library::REFERENCE;
+use reference::{judge, listing, Use};
+use samples::{cases, check_case, clean, create, done, formatted, set_size, write};
 
 #[test]
 fn every_case() {
     let rows = cases();
-    assert_eq!(rows.len(), 19);
+    assert_eq!(rows.len(), 21);
     for case in &rows {
         check_case(&REFERENCE, case);
     }

@@ -93,12 +93,9 @@ fn campsite_examples() {
 /// Every page in use: no pair, and a list of no pairs will do.
 #[test]
 fn no_free_page() {
-    let mut volume = formatted(16, 8);
-    done(&mut volume, &create(b"A1"));
-    done(&mut volume, &write(1, 0, &text(4_096)));
-    done(&mut volume, &write(1, 4_096, &text(1_537)));
-    assert_eq!(free_count(&volume), Ok(0));
-    for volume in [volume, with_free_pages(300, 8, |_| false)] {
+    for pages in [16, 300] {
+        let volume = with_free_pages(pages, 8, |_| false);
+        assert_eq!(free_count(&volume), Ok(0));
         assert_eq!(gaps(&volume, &mut []), Ok(0));
         assert_eq!(pairs_of(&volume).len(), 0);
         check_lists(&volume, 9);

@@ -2,6 +2,9 @@
 //! made-up volumes. Every call returns, refusals leave lent memory as it was, and what is accepted is
 //! treated as the rules say.
 
+mod need;
+
+use need::refused_for_pages;
 use reference::layout::{set_word, word};
 use reference::{
     carry_out, cut, find, format, free_count, gaps, groups, judge, kth_name, land, listing, map,
@@ -62,8 +65,9 @@ fn changing_call(
     let inodes = word(volume, 1);
     let list = match result {
         Err(refusal) => {
-            let expected = refused_by_map(&before, inodes, call).unwrap_or(Refusal::NoSpace);
-            assert_eq!(refusal, expected);
+            let expected = refused_by_map(&before, inodes, call)
+                .or_else(|| refused_for_pages(&judge(volume).unwrap(), &before, call));
+            assert_eq!(Some(refusal), expected);
             return false;
         }
         Ok(list) => list,

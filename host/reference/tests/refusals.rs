@@ -1,7 +1,7 @@
 //! The refusals: for each call every number with its exact condition, the lowest one first, and
 //! lent memory as it was.
 
-use reference::layout::{set_word, tail_word, word};
+use reference::layout::{set_word, word};
 use reference::{
     carry_out, find, format, free_count, gaps, judge, kth_name, listing, read, size, Answer, Call,
     Refusal, FENCE,
@@ -120,6 +120,7 @@ fn numbers_and_words() {
         (12, "no space"),
         (13, "bad list"),
         (14, "too many gaps"),
+        (15, "last page"),
     ];
     let actual = Refusal::ALL.map(|refusal| (refusal.number(), refusal.word()));
     assert_eq!(actual, table);
@@ -364,14 +365,10 @@ fn long_write_and_past_the_end() {
     assert!(filled(&volume, &set_size(1, 65_536)).is_ok());
 }
 
-/// A volume with no free page: "A1" has data in all pages but the two log pages.
+/// A volume with no free page: "A1" has data in all pages but the two log pages. Made by hand,
+/// since create and write keep one page back.
 fn full() -> Vec<u8> {
-    let mut volume = formatted(16, 8);
-    done(&mut volume, &create(b"A1"));
-    done(&mut volume, &write(1, 0, &text(4_096)));
-    done(&mut volume, &write(1, 4_096, &text(2_048)));
-    assert_eq!(free_count(&volume), Ok(0));
-    volume
+    full_with_entries(1)
 }
 
 #[test]
@@ -413,23 +410,24 @@ fn idle_calls_take_no_page() {
     assert_eq!(refused(&volume, &set_size(2, 1)), 12);
 }
 
-/// A volume with no free page whose directory has this many entries, all about "A1" and "L1".
-fn full_with_entries(entries: u64) -> Vec<u8> {
+/// A volume with no free page whose directory has this many entries, all about "A1" and "L1". The
+/// log of "A1" has two entries.
+fn full_with_entries(entries: usize) -> Vec<u8> {
     let mut volume = formatted(16, 8);
-    done(&mut volume, &create(b"A1"));
-    let calls = [link(b"A1", b"L1"), unlink(b"L1")];
-    for (_, call) in (1..entries).zip(calls.iter().cycle()) {
-        done(&mut volume, call);
-    }
-    while let Ok(free) = free_count(&volume) {
-        if free == 0 {
-            break;
-        }
-        let first = word(&volume, tail_word(1)) == 0;
-        let pages = if first { free - 1 } else { free }.min(8);
-        let offset = size(&volume, 1).unwrap();
-        done(&mut volume, &write(1, offset, &text(512 * pages as usize)));
-    }
+    let mut names = vec![entry_add(1, b"A1")];
+    let again = [entry_add(1, b"L1"), entry_remove(b"L1")];
+    names.extend(again.iter().cycle().take(entries - 1));
+    let directory: Vec<u64> = (2..).take(entries.div_ceil(7)).collect();
+    put_log(&mut volume, 0, &directory, &names);
+    let (log, data) = (2 + directory.len() as u64, 3 + directory.len() as u64);
+    let count = 16 - data;
+    let size = 512 * count;
+    let writes = [
+        entry_write(0, data, 8, 4_096),
+        entry_write(8, data + 8, count - 8, size),
+    ];
+    put_log(&mut volume, 1, &[log], &writes);
+    assert_eq!(free_count(&volume), Ok(0));
     volume
 }
 
@@ -476,9 +474,14 @@ fn data_needs_free_pages_and_then_the_log_some() {
     assert_eq!(free_count(&volume), Ok(6));
     let stretches = judge(&volume).unwrap().free_stretches();
     assert_eq!(stretches, [(5, 1), (8, 1), (10, 1), (12, 1), (14, 2)]);
-    for pages in 1..=5 {
+    for pages in 1..=4 {
         assert!(filled(&volume, &write(1, 0, &text(512 * pages))).is_ok());
     }
+    assert_eq!(
+        refused(&volume, &write(1, 0, &text(2_560))),
+        15,
+        "five pages and one for the log"
+    );
     assert_eq!(
         refused(&volume, &write(1, 0, &text(2_561))),
         12,
@@ -495,15 +498,28 @@ fn data_needs_free_pages_and_then_the_log_some() {
         12,
         "no log page"
     );
-    assert!(filled(&volume, &write(2, 0, &text(1_536))).is_ok());
+    assert_eq!(refused(&volume, &write(2, 0, &text(1_536))), 15);
+    assert!(filled(&volume, &write(2, 0, &text(1_024))).is_ok());
+}
+
+/// A volume of 256 inodes whose directory has so many names, each of an empty file. Made by hand,
+/// since create keeps one page back.
+fn with_empty_files(pages: u64, names: u64) -> Vec<u8> {
+    let mut volume = formatted(pages, 256);
+    let entries: Vec<[u64; 8]> = (1..=names)
+        .map(|number| entry_add(number, &numbered(number)))
+        .collect();
+    let log: Vec<u64> = (33..).take(entries.len().div_ceil(7)).collect();
+    put_log(&mut volume, 0, &log, &entries);
+    for inode in 1..=names {
+        put_log(&mut volume, inode, &[], &[]);
+    }
+    volume
 }
 
 #[test]
 fn directory_full_with_many_inodes() {
-    let mut volume = formatted(65, 256);
-    for number in 1..=223 {
-        done(&mut volume, &create(&numbered(number)));
-    }
+    let mut volume = with_empty_files(65, 223);
     assert!(filled(&volume, &link(&numbered(1), &numbered(224))).is_ok());
     done(&mut volume, &create(&numbered(224)));
     assert_eq!(free_count(&volume), Ok(0));

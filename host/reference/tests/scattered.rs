@@ -4,6 +4,7 @@
 use reference::layout::{head_word, tail_word};
 use reference::{cut, free_count, groups, judge, land, map_after, Call, Use, Volume, FENCE};
 use samples::*;
+use std::cmp::Ordering;
 use std::collections::{BTreeMap, BTreeSet};
 use std::ops::Range;
 
@@ -108,7 +109,7 @@ struct Kind {
     entries: usize,
     /// How many pages its log needs.
     log_pages: usize,
-    /// How many free pages are more than needed (1 stands for more too); below 0 it is refused.
+    /// How many free pages are more than needed (1 stands for more too); below 1 it is refused.
     spare: i64,
     /// How many more entries fit in the tail's page; none of an empty log.
     slots: Option<u64>,
@@ -147,6 +148,8 @@ fn check(title: &str, volume: &[u8], call: &Call) -> Kind {
     let list = filled(volume, call).map_err(|refusal| refusal.number());
     if spare < 0 {
         assert_eq!(list, Err(12), "{title}");
+    } else if spare == 0 {
+        assert_eq!(list, Err(15), "{title}the last page is kept back");
     } else {
         assert_eq!(list, Ok(scatter.list(*inode, tail, new)), "{title}");
         let mut landed = volume.to_vec();
@@ -184,7 +187,7 @@ fn every_sample() {
         for call in &sample.writes {
             let kind = check(title, &sample.volume, call);
             kinds.insert(kind);
-            scattered_writes += u64::from(kind.spare >= 0 && kind.entries > 1);
+            scattered_writes += u64::from(kind.spare > 0 && kind.entries > 1);
         }
     }
     assert!(scattered_writes > 15_000, "{scattered_writes}");
@@ -221,7 +224,7 @@ fn check_shapes(kinds: &BTreeSet<Kind>) {
 /// The tail's page below the data pages, between them and above them; log pages below and above a run,
 /// and above scattered data; each way to begin and end.
 fn check_places(kinds: &BTreeSet<Kind>) {
-    let done = || kinds.iter().filter(|kind| kind.spare >= 0);
+    let done = || kinds.iter().filter(|kind| kind.spare > 0);
     let scattered = || done().filter(|kind| kind.entries > 1);
     let tails: BTreeSet<_> = scattered().filter_map(|kind| kind.tail).collect();
     let expected = [[true, false], [false, false], [false, true]];
@@ -241,10 +244,11 @@ fn check_places(kinds: &BTreeSet<Kind>) {
 }
 
 /// "of free pages 5 6 8 10 12 13 and six pages, the entries are (5, 2), (8, 1), (10, 1), (12, 2)".
+/// Page 16 is free too, and kept back (order 4).
 #[test]
 fn the_example_of_the_readings() {
-    let free = [5, 6, 8, 10, 12, 13];
-    let mut volume = with_free_pages(16, 8, |page| free.contains(&page));
+    let free = [5, 6, 8, 10, 12, 13, 16];
+    let mut volume = with_free_pages(17, 8, |page| free.contains(&page));
     assert_eq!(
         words(&volume, tail_word(1)..tail_word(1) + 1),
         [7 * 512 + 192]
@@ -267,7 +271,7 @@ fn the_example_of_the_readings() {
     assert_eq!(groups[1], [(tail_word(1), 7 * 512 + 448)]);
     land(&mut volume, &list);
     assert_eq!(map_of(&volume).files[&1], text(3_072));
-    assert_eq!(free_count(&volume), Ok(3), "the old data pages");
+    assert_eq!(free_count(&volume), Ok(4), "the old data pages and page 16");
 }
 
 /// A volume of 64 pages on which these pages are free, and so many entries stand in the log of file 1,
@@ -297,11 +301,11 @@ fn answer(volume: &[u8], call: &Call) -> Result<usize, u64> {
     Ok(list.len())
 }
 
-/// "nine pages in nine pieces with f = 0 and ten free pages is 12"; with eleven it is done, and its
-/// list is the longest of a write.
+/// "nine pages in nine pieces with f = 0 and ten free pages is 12"; with eleven it would take the
+/// last, and with twelve it is done, and its list is the longest of a write.
 #[test]
 fn nine_pages_in_nine_pieces() {
-    for (entries, least, words) in [
+    for (entries, needed, words) in [
         (0, 11, 1_306),
         (7, 11, 1_306),
         (6, 11, 1_306),
@@ -313,7 +317,11 @@ fn nine_pages_in_nine_pieces() {
     ] {
         for free in 0..=12 {
             let volume = with_single_pages(entries, free);
-            let expected = if free < least { Err(12) } else { Ok(words) };
+            let expected = match free.cmp(&needed) {
+                Ordering::Less => Err(12),
+                Ordering::Equal => Err(15),
+                Ordering::Greater => Ok(words),
+            };
             let answer = answer(&volume, &write(1, 511, &text(4_096)));
             assert_eq!(answer, expected, "{entries} entries, {free} free");
         }
@@ -349,18 +357,21 @@ fn entries_in_three_log_pages() {
 }
 
 /// "A run with no page left for the log is 12, with no second try." A page below the run or above it is
-/// for the log.
+/// for the log, and a further one is kept back (order 4).
 #[test]
 fn a_run_and_no_page_for_the_log() {
     for entries in [0, 1, 6, 7, 14] {
         let needs_page = entries % 7 == 0;
         let call = write(1, 0, &text(1_536));
         let volume = with_entries(entries, |page| (20..23).contains(&page));
-        let expected = if needs_page { Err(12) } else { Ok(406) };
+        let expected = if needs_page { Err(12) } else { Err(15) };
         assert_eq!(answer(&volume, &call), expected, "{entries} entries");
         for further in [18, 24] {
             let free = |page: u64| (20..23).contains(&page) || page == further;
-            let mut volume = with_entries(entries, free);
+            let volume = with_entries(entries, free);
+            let expected = if needs_page { Err(15) } else { Ok(406) };
+            assert_eq!(answer(&volume, &call), expected, "{entries} entries");
+            let mut volume = with_entries(entries, |page| free(page) || page == 30);
             let expected = if needs_page { 408 } else { 406 };
             assert_eq!(done(&mut volume, &call), expected, "{entries} entries");
             let judged = judge(&volume).unwrap();
@@ -374,19 +385,19 @@ fn a_run_and_no_page_for_the_log() {
 /// "Set size's copy needs one page and is never scattered."
 #[test]
 fn set_size_takes_one_page() {
-    let mut volume = with_single_pages(5, 4);
+    let mut volume = with_single_pages(5, 5);
     assert_eq!(
         done(&mut volume, &write(1, 0, &text(1_500))),
         2 * (3 * 64 + 3 * 8 + 4)
     );
     assert_eq!(
         free_count(&volume),
-        Ok(0),
+        Ok(1),
         "three for the data and one for the log"
     );
-    assert_eq!(answer(&volume, &set_size(1, 700)), Err(12));
+    assert_eq!(answer(&volume, &set_size(1, 700)), Err(15));
     assert_eq!(answer(&volume, &set_size(1, 1_024)), Ok(22));
-    let mut volume = with_single_pages(5, 5);
+    let mut volume = with_single_pages(5, 6);
     done(&mut volume, &write(1, 0, &text(1_500)));
     assert_eq!(done(&mut volume, &set_size(1, 700)), 166);
     assert_eq!(map_of(&volume).files[&1], text(700));

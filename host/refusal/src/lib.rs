@@ -16,8 +16,8 @@ use std::fmt;
 /// What a call answers that answers a number: the number, or the refusal.
 pub type Answer = Result<u64, Refusal>;
 
-/// A refusal. It has no content but its number; of several that apply, the lowest is answered, with 14 checked
-/// directly after 4.
+/// A refusal. It has no content but its number; of several that apply, the lowest is answered, with
+/// 14 checked directly after 4 and 15 directly after 12.
 #[derive(Clone, Copy, Debug, PartialEq, Eq, PartialOrd, Ord, Hash)]
 pub enum Refusal {
     /// 1: the store list to be filled has under 4,096 words, or the name buffer under 32 bytes.
@@ -48,11 +48,13 @@ pub enum Refusal {
     BadList = 13,
     /// 14: the stretches of free pages exceed the list of pairs (document 02).
     TooManyGaps = 14,
+    /// 15: create, link, write or set size would take the last free page (document 02).
+    LastPage = 15,
 }
 
 impl Refusal {
     /// All refusals, in the order of their numbers.
-    pub const ALL: [Refusal; 14] = [
+    pub const ALL: [Refusal; 15] = [
         Refusal::ShortMemory,
         Refusal::NoVolume,
         Refusal::Damaged,
@@ -67,9 +69,11 @@ impl Refusal {
         Refusal::NoSpace,
         Refusal::BadList,
         Refusal::TooManyGaps,
+        Refusal::LastPage,
     ];
 
-    /// The refusal's number in document 01's table, which the orders of document 02 lengthen: 1 to 14.
+    /// The refusal's number in document 01's table, which the orders of document 02 lengthen: 1 to
+    /// 15.
     pub fn number(self) -> u64 {
         self as u64
     }
@@ -81,7 +85,8 @@ impl Refusal {
             .find(|refusal| refusal.number() == number)
     }
 
-    /// The refusal's word in document 01's table; that of 14 is ours, since document 02 gives none.
+    /// The refusal's word in document 01's table; those of 14 and 15 are ours, since document 02
+    /// gives none.
     pub fn word(self) -> &'static str {
         match self {
             Refusal::ShortMemory => "short memory",
@@ -98,6 +103,7 @@ impl Refusal {
             Refusal::NoSpace => "no space",
             Refusal::BadList => "bad list",
             Refusal::TooManyGaps => "too many gaps",
+            Refusal::LastPage => "last page",
         }
     }
 }

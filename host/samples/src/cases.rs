@@ -308,7 +308,8 @@ fn on_b(name: &'static str, call: Call, answer: Result<Option<u64>, u64>) -> Cas
     }
 }
 
-/// Cases G, H, I, K and M.
+/// Cases G, H, I, K and M. Of case M order 4 says: "Case M's write of 1,537 bytes now gets the new
+/// number"; one byte fewer leaves a page.
 fn after_b() -> Vec<Case> {
     let full = text(4_096);
     let mut rows = vec![
@@ -321,7 +322,17 @@ fn after_b() -> Vec<Case> {
         on_b(
             "M, then 1,537 bytes",
             write(1, 4_096, &text(1_537)),
+            Err(15),
+        ),
+        on_b(
+            "M, 1,536 bytes instead",
+            write(1, 4_096, &text(1_536)),
             Ok(None),
+        ),
+        on_b(
+            "M, 2,048 bytes instead",
+            write(1, 4_096, &text(2_048)),
+            Err(15),
         ),
         on_b(
             "M, 2,049 bytes instead",
@@ -332,7 +343,13 @@ fn after_b() -> Vec<Case> {
     let after = [
         ("I", 4, behind_zeros(61_440, &full)),
         ("M", 4, full.clone()),
-        ("M, then 1,537 bytes", 0, [&full[..], &text(1_537)].concat()),
+        ("M, then 1,537 bytes", 4, full.clone()),
+        (
+            "M, 1,536 bytes instead",
+            1,
+            [&full[..], &text(1_536)].concat(),
+        ),
+        ("M, 2,048 bytes instead", 4, full.clone()),
         ("M, 2,049 bytes instead", 4, full.clone()),
     ];
     for (name, free, bytes) in after {

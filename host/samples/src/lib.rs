@@ -1,11 +1,14 @@
 //! What the tests of the workspace share: volumes, calls and numbers.
 //!
 //! A test of the reference model and a test of the compiled calls take their volumes from the same
-//! makers: by hand ([`sample`], [`put_log`], [`DirectoryLog`], [`with_free_pages`]), by random calls and
-//! power cuts ([`used_volume`], [`any_call`]), put together at random ([`made_up`]), damaged ([`change_live_word`],
-//! [`flip_live_bit`]), with page numbers past 16 bits ([`wide_pages()`]), with scattered free pages ([`scattered()`]),
-//! and noise ([`headed_noise`]). What is random comes from a [`Random`] alone, so that a seed gives the same volumes
-//! again. Document 01's cases are rows of one table ([`cases()`]), for any library of the calls.
+//! makers: by hand ([`sample`], [`put_log`], [`DirectoryLog`], [`with_free_pages`]), by random
+//! calls and power cuts ([`used_volume`], [`any_call`]), put together at random ([`made_up`]),
+//! damaged ([`change_live_word`], [`flip_live_bit`]), with page numbers past 16 bits
+//! ([`wide_pages()`]), with scattered free pages ([`scattered()`]), with few free pages
+//! ([`last_page()`]), and noise ([`headed_noise`]). What is random comes from a [`Random`] alone,
+//! so that a seed gives the same volumes again. Document 01's cases are rows of one table
+//! ([`cases()`]), and volumes are filled and emptied ([`full_handheld()`]), for any library of the
+//! calls.
 //!
 //! ```
 //! use reference::random::Random;
@@ -24,7 +27,9 @@ mod calls;
 mod cases;
 mod damage;
 mod directory_logs;
+mod full_handheld;
 mod gaps;
+mod last_page;
 mod made_up;
 mod noise;
 mod numbers;
@@ -46,7 +51,9 @@ pub use directory_logs::{
     nearly_same_names, size_of, varied_name, varied_names, DirectoryLog, MOST_DIFFERENT,
     MOST_ENTRIES, NOWHERE,
 };
+pub use full_handheld::{check_row, full_handheld, rows_without_a_page, Emptied, Row, HANDHELDS};
 pub use gaps::{volumes_with_gaps, with_free_pages};
+pub use last_page::{few_free_pages, last_page, no_files, FewFree, LastPage};
 pub use made_up::{made_up, made_up_sized};
 pub use noise::headed_noise;
 pub use numbers::{any_name, any_number, NUMBERS};

@@ -8,7 +8,8 @@
 //! - The file's log is empty, or 0 to 6 more entries fit in the tail's page. (7 never do: a tail's page has an entry.)
 //! - The tail's page lies below the pages for the data, between them, directly behind them, or behind every free page. The pages for the
 //!   log lie above scattered data and follow directly or lie apart; beside a run they lie below or above it.
-//! - As many pages are free as data and log need, one fewer, or one more. The first and the last page of the volume may be among them.
+//! - As many pages are free as data and log need, one fewer, one more, or two more. With as many as needed the write is refused since
+//!   order 4: it would take the last one. The first and the last page of the volume may be among them.
 //! - The write begins and ends at a page's boundary or inside a page, whose other bytes are old ones of the file or zeros; the old size
 //!   lies before, inside or behind what is written. Entries that no longer count map the free pages too.
 
@@ -121,12 +122,12 @@ impl Row {
 }
 
 /// Volumes on which the lowest free pages, 2 to 9, lie in 2 to 9 pieces, for each count of slots, each place of the tail's page, and as
-/// many free pages as needed, one fewer and one more.
+/// many free pages as needed, one fewer, one more and two more.
 pub fn in_pieces() -> impl Iterator<Item = Scattered> {
     let pairs = (2..=9).flat_map(|count| (2..=count).map(move |pieces| (count, pieces)));
     let ways = pairs.flat_map(|pair| SLOTS.map(|slots| (pair, slots)));
     let ways = ways.flat_map(|way| PLACES.map(|place| (way, place)));
-    let ways = ways.flat_map(|way| [1, 0, 2].map(|more| (way, more)));
+    let ways = ways.flat_map(|way| [2, 1, 0, 3].map(|more| (way, more)));
     (0..).zip(ways).map(|(seed, (way, more))| {
         let (((count, pieces), slots), place) = way;
         let mut random = Random::new(seed);
@@ -185,7 +186,7 @@ fn row_of_pieces(random: &mut Random, pieces: &[u64], free: u64, place: Place) -
 
 /// Volumes on which a run of free pages is exactly as long as the data, or a page longer, with up to two single free pages below it and
 /// up to one above it, for each count of slots: the write takes the run though lower pages are free, and where no page is left for the
-/// log it is refused.
+/// log, or none behind it, it is refused.
 pub fn with_runs() -> impl Iterator<Item = Scattered> {
     let ways = (2..=9).flat_map(|count| SLOTS.map(|slots| (count, slots)));
     let ways = ways.flat_map(|way| [0, 1, 2].map(|below| (way, below)));

@@ -1,19 +1,19 @@
 -- An action with one append: what it checks, stores and commits is that of the append, and the action's own.
-use Rattle.model.proofs.Prelude.{_≡_, refl, fun-ext, ℕ, Bool, true, false, List, [], _∷_, _++_, append-nil, Option, none, some, arith, length, getD}
+use Rattle.model.proofs.Prelude.{_≡_, refl, fun-ext, ℕ, _-_, _≤_, Bool, true, false, List, [], _∷_, _++_, append-nil, Option, none, some, arith, add-zero, zero-add, length, getD, ltb-false}
 use Rattle.model.specs.Words.{Mem}
 use Rattle.model.specs.Layout.{headWord, tailWord}
 use Rattle.model.specs.Lists.{valuesFrom, lowestFew, indexOf}
 use Rattle.model.specs.Stretches.{stretches}
-use Rattle.model.specs.Accept.{free}
+use Rattle.model.specs.Accept.{free, freeCount}
 use Rattle.model.specs.FileMap.{FileMap}
 use Rattle.model.specs.Stores.{Stores, noWords, both, onlyIf}
-use Rattle.model.specs.Calls.{Change, Append, layEntries, layPages, tailAfter, pagesFor, commit, entriesOnly, stretchEntries, lowestRun, runOr, lowestPages, dataPages, appended, oldPages, oldSlots, freshPages, freshLog, noRoom, prepared, newTail, ownChanges, lacksRoom, allPrepared, allChanges}
-use Rattle.model.proofs.Tests.{by-bool}
+use Rattle.model.specs.Calls.{Change, Append, layEntries, layPages, tailAfter, pagesFor, commit, entriesOnly, stretchEntries, lowestRun, runOr, lowestPages, dataPages, appended, oldPages, oldSlots, freshPages, freshLog, pagesNeeded, prepared, newTail, ownChanges, allNeeded, allPrepared, allChanges, roomChecks, spaceChecks}
 use Rattle.model.proofs.Lists.{few-none}
 use Rattle.model.proofs.Frame.Dead.{low, frame}
 use Rattle.model.proofs.Crash.Stores.{first-none}
 use Rattle.model.proofs.Crash.Commit.{Ready, Owed, Sound, commit-safe}
-use Rattle.model.proofs.Calls.Grown.{DeadIn}
+use Rattle.model.proofs.Crash.History.{Passed}
+use Rattle.model.proofs.Calls.Grown.{leaves, DeadIn}
 use Rattle.model.proofs.Calls.Stored.{changes-on}
 
 pub both-none : (s : Stores) → both s noWords ≡ s
@@ -21,9 +21,9 @@ unfolding both
 both-none s = fun-ext (λ w. first-none (s w))
 
 module _ (u : Mem) (P : ℕ) (f : ℕ → Bool) (a : Append) where
-  pub one-room : lacksRoom u P f (a ∷ []) ≡ noRoom u P f a
-  unfolding lacksRoom
-  one-room = by-bool (noRoom u P f a) (λ e. rw e) (λ e. rw e)
+  pub one-needed : allNeeded u P f (a ∷ []) ≡ pagesNeeded u P f a
+  unfolding allNeeded
+  one-needed = add-zero (pagesNeeded u P f a)
 
   pub one-prepared : allPrepared u P f (a ∷ []) ≡ prepared u P f a
   unfolding allPrepared
@@ -32,6 +32,12 @@ module _ (u : Mem) (P : ℕ) (f : ℕ → Bool) (a : Append) where
   pub one-changes : allChanges u P f (a ∷ []) ≡ ownChanges u P f a
   unfolding allChanges
   one-changes = append-nil (ownChanges u P f a)
+
+-- its pages are there where the checks for room do not hold
+pub room-passed : (u : Mem) (P N : ℕ) (b : Bool) (a : Append) → Passed (spaceChecks u P N b (a ∷ [])) → pagesNeeded u P (free u P N) a ≤ freeCount u P N
+unfolding spaceChecks roomChecks
+room-passed u P N b a p =
+    let l = ltb-false (freeCount u P N) (allNeeded u P (free u P N) (a ∷ [])) (p .0) in rw (one-needed u P (free u P N) a) at l
 
 -- entries and no data
 run-none : (f : ℕ → Bool) (P : ℕ) (o : Option ℕ) → runOr 0 o (lowestFew f P 0 0) ≡ []
@@ -59,6 +65,10 @@ module _ (u : Mem) (P : ℕ) (f : ℕ → Bool) (k : ℕ) (es : List (List ℕ))
   unfolding freshPages oldPages oldSlots entriesOnly
   fresh-anew = rw (only-entries u P f true k es) (omega arith)
 
+  pub anew-needed : allNeeded u P f (a ∷ []) ≡ pagesFor (length es)
+  unfolding pagesNeeded entriesOnly
+  anew-needed = rw (one-needed u P f a, fresh-anew) (zero-add (pagesFor (length es)))
+
   own-prepared : prepared u P f a ≡ layEntries ls 0 es
   unfolding prepared layPages oldPages oldSlots entriesOnly both onlyIf indexOf
   own-prepared = rw (no-data u P f true k es, only-entries u P f true k es) (fun-ext (λ i. first-none (layEntries ls 0 es i)))
@@ -75,17 +85,21 @@ module _ (u : Mem) (P : ℕ) (f : ℕ → Bool) (k : ℕ) (es : List (List ℕ))
 
 -- what is owed is enough
 module _ (P N : ℕ) (m : Mem) (r : Ready P N m) where
-  pub owed-sound : (s : Stores) (c : Change) (cs : List Change) (M : FileMap) → Owed P N (DeadIn P N) m s (c ∷ cs) M → Sound P N m (commit m s (c ∷ cs)) M
-  owed-sound =
-      commit-safe P N (DeadIn P N) (λ u u′ o d. let f = frame P N (r .sizes) u u′ o d in (f .0, f .1)) (λ u w h. low h) m r
+  pub owed-sound : (F : ℕ) (s : Stores) (c : Change) (cs : List Change) (M : FileMap) → Owed P N F (DeadIn P N) m s (c ∷ cs) M
+      → Sound P N F m (commit m s (c ∷ cs)) M
+  owed-sound F = commit-safe P N (DeadIn P N) (frame P N (r .sizes)) (λ u w h. low h) F m r
 
   -- an append to a log that goes on, with further stores t and further changes cs
   module _ (a : Append) (on : a .anew ≡ false) (cs : List Change) (M : FileMap) where
-    pub append-sound : (t : Stores) → Owed P N (DeadIn P N) m (both (prepared m P (free m P N) a) t) (newTail m P (free m P N) a ∷ cs) M
-        → Sound P N m (commit m (both (allPrepared m P (free m P N) (a ∷ [])) t) (allChanges m P (free m P N) (a ∷ []) ++ cs)) M
-    append-sound t o =
-        rw (one-prepared m P (free m P N) a, one-changes m P (free m P N) a, changes-on m P (free m P N) a on) (owed-sound _ _ cs M o)
+    abbrev F : ℕ
+    F = freeCount m P N - allNeeded m P (free m P N) (a ∷ [])
 
-    pub plain-sound : Owed P N (DeadIn P N) m (prepared m P (free m P N) a) (newTail m P (free m P N) a ∷ cs) M
-        → Sound P N m (commit m (both (allPrepared m P (free m P N) (a ∷ [])) noWords) (allChanges m P (free m P N) (a ∷ []) ++ cs)) M
+    pub append-sound : (t : Stores) → Owed P N (leaves m P N a) (DeadIn P N) m (both (prepared m P (free m P N) a) t) (newTail m P (free m P N) a ∷ cs) M
+        → Sound P N F m (commit m (both (allPrepared m P (free m P N) (a ∷ [])) t) (allChanges m P (free m P N) (a ∷ []) ++ cs)) M
+    append-sound t o =
+        rw (one-needed m P (free m P N) a, one-prepared m P (free m P N) a, one-changes m P (free m P N) a, changes-on m P (free m P N) a on)
+        (owed-sound (leaves m P N a) _ _ cs M o)
+
+    pub plain-sound : Owed P N (leaves m P N a) (DeadIn P N) m (prepared m P (free m P N) a) (newTail m P (free m P N) a ∷ cs) M
+        → Sound P N F m (commit m (both (allPrepared m P (free m P N) (a ∷ [])) noWords) (allChanges m P (free m P N) (a ∷ []) ++ cs)) M
     plain-sound o = append-sound noWords (rw (both-none (prepared m P (free m P N) a)) o)

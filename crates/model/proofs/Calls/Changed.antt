@@ -1,18 +1,19 @@
 -- A call changes one inode k: the others read as before, or are let go, or are new and empty. So the uses of a page grow by what the call takes,
 -- and no page serves twice.
-use Rattle.model.proofs.Prelude.{_≡_, refl, sym, _∙_, _⊎_, ⊎-elim, ℕ, zero, suc, _+_, _≤_, _<_, true, false, List, [], arith, le-of-eq, eqb, eqb-true, eq-eqb, ne-eqb}
+use Rattle.model.proofs.Prelude.{_≡_, refl, sym, _∙_, _⊎_, ⊎-elim, ℕ, zero, suc, _+_, _≤_, _<_, true, false, List, [], arith, le-of-eq, length, eqb, eqb-true, eq-eqb, ne-eqb}
 use Rattle.model.specs.Lists.{bit, allBelow, sumBelow, all, count, foldl}
 use Rattle.model.specs.Words.{Mem}
 use Rattle.model.specs.Layout.{validWord, tailWord, root, isDirectory}
 use Rattle.model.specs.Log.{pages}
 use Rattle.model.specs.State.{emptyFile, fileOf, namesOf}
-use Rattle.model.specs.Accept.{isValid, mappedTo, usesBy, uses, validOk, logOk, namesOk, endOk, inodeOk, viewOk}
+use Rattle.model.specs.Accept.{isValid, mappedTo, usesBy, uses, free, freeCount, validOk, logOk, namesOk, endOk, inodeOk, viewOk}
 use Rattle.model.proofs.Tests.{by-bool, by-eq}
-use Rattle.model.proofs.Lists.{sumBelow-le}
+use Rattle.model.proofs.Lists.{sumBelow-le, sumBelow-add}
+use Rattle.model.proofs.Counting.{count-sum}
 use Rattle.model.proofs.Log.Extend.{empty-log}
 use Rattle.model.proofs.Frame.Inode.{Agree, same-usesBy, same-inodeOk}
 use Rattle.model.proofs.Frame.View.{fine-inode, view-fine, fine-view, file-is, inode-ok, log-ok}
-use Rattle.model.proofs.Calls.Room.{free-in, Lone}
+use Rattle.model.proofs.Calls.Room.{free-in, free-bounds, Lone}
 
 -- a sum of which only the summand at k grows, by e
 sum-grow : (n k : ℕ) (f g : ℕ → ℕ) (e : ℕ) → ((i : ℕ) → i < n → (i ≡ k → ⊥) → g i ≤ f i) → g k ≤ f k + e → sumBelow n g ≤ sumBelow n f + e
@@ -92,13 +93,29 @@ module _ {m u : Mem} {P N k : ℕ} {ls : List ℕ} {e : ℕ → ℕ} (c : Change
       rw (c .was-valid, c .is-valid)
       (by-eq k 0 (λ q. rw (eq-eqb k 0 q) (omega arith)) (λ q. let g = c .maps q p n in rw (ne-eqb k 0 q) (omega arith)))
 
+  -- the uses of a page grow by what the call takes
+  uses-grow : (p : ℕ) → (p ≡ 0 → ⊥) → uses u P N p ≤ uses m P N p + (count p ls + e p)
+  unfolding uses
+  uses-grow p n =
+      sum-grow N k (usesBy m P N p) (usesBy u P N p) (count p ls + e p) (λ i b q. uses-after m u P N (c .was-fine) i b p n (c .others i b q)) (own-uses p n)
+
   -- no page serves twice
   once-after : (p : ℕ) → p < P → (p ≡ 0 → ⊥) → uses u P N p ≤ 1
-  unfolding uses
   once-after p l n =
       let was = view-fine m P N (c .was-fine) in
-      let g = sum-grow N k (usesBy m P N p) (usesBy u P N p) (count p ls + e p) (λ i b q. uses-after m u P N (c .was-fine) i b p n (c .others i b q)) (own-uses p n) in
+      let g = uses-grow p n in
       ⊎-elim (λ z. let a = was .once p l n in omega arith) (λ z. let a = free-in m P N p (z .0) .1 in let b = z .1 in omega arith) (c .lone p)
+
+  -- a page that was free and that the call does not take is free
+  still-free : (p : ℕ) → bit (free m P N p) ≤ bit (free u P N p) + (count p ls + e p)
+  unfolding free bit
+  still-free p =
+      by-bool (free m P N p)
+      (λ f.
+      let i = free-in m P N p f in
+      let g = uses-grow p (λ z. let b = free-bounds m P N p f in omega arith) in
+      by-eq (count p ls + e p) 0 (λ z. rw (f, i .0, eq-eqb (uses u P N p) 0 (omega (arith, i .1))) (omega arith)) (λ z. rw f (omega arith)))
+      (λ f. rw f (omega arith))
 
   -- the changed inode is as it should be
   own-ok : inodeOk u P N k ≡ true
@@ -118,3 +135,12 @@ module _ {m u : Mem} {P N k : ℕ} {ls : List ℕ} {e : ℕ → ℕ} (c : Change
         names = c .names;
         once = once-after;
       })
+
+-- All free pages are still free, but for those that the call takes: ls, and ds for data.
+pub changed-free : {m u : Mem} {P N k : ℕ} {ls : List ℕ} (ds : List ℕ) → Changed m u P N k ls (λ p. count p ds)
+    → freeCount m P N ≤ freeCount u P N + (length ls + length ds)
+unfolding freeCount
+changed-free {m} {u} {P} {N} {k} {ls} ds c =
+    let free-now = sumBelow-add P (λ p. bit (free m P N p)) (λ p. bit (free u P N p)) (λ p. count p ls + count p ds) (λ p l. still-free c p) in
+    let taken = sumBelow-add P (λ p. count p ls + count p ds) (λ p. count p ls) (λ p. count p ds) (λ p l. omega arith) in
+    omega (arith, count-sum P ls, count-sum P ds)

@@ -1,5 +1,5 @@
 -- Clean does what it owes: the log written anew means the file or the names that the old one meant, and everything else is kept.
-use Rattle.model.proofs.Prelude.{_≡_, refl, sym, _∙_, ap, ⊎-elim, ℕ, _/_, _<_, true, cond, not, List, [], _∷_, map, none, arith, length, getD, leb, leb-false, eq-eqb, ne-eqb, not-false}
+use Rattle.model.proofs.Prelude.{_≡_, refl, sym, _∙_, ap, ⊎-elim, ℕ, _-_, _/_, _≤_, _<_, true, false, cond, not, List, [], _∷_, map, none, arith, length, getD, leb, leb-false, eq-eqb, ne-eqb, not-false}
 use Rattle.model.specs.Lists.{all, has, count, distinct, foldl}
 use Rattle.model.specs.Words.{Mem}
 use Rattle.model.specs.Layout.{inPages, validWord, headWord, tailWord, root, isDirectory}
@@ -7,10 +7,10 @@ use Rattle.model.specs.Journal.{targetOk}
 use Rattle.model.specs.Entry.{fileEntryOk, nameEntryOk}
 use Rattle.model.specs.Log.{pages}
 use Rattle.model.specs.State.{emptyFile, fileStep, fileOf, nameStep, namesOf}
-use Rattle.model.specs.Accept.{isValid, isFile, free, logOk, viewOk}
+use Rattle.model.specs.Accept.{isValid, isFile, free, freeCount, logOk, viewOk}
 use Rattle.model.specs.FileMap.{mapOf, mapAfter, clean}
 use Rattle.model.specs.Stores.{Stores, over}
-use Rattle.model.specs.Calls.{Change, Append, layEntries, tailAfter, pagesFor, targets, entriesOnly, freshLog, roomChecks, actionChecks, actionGroups, cleanEntries, cleanAction}
+use Rattle.model.specs.Calls.{Change, Append, layEntries, tailAfter, pagesFor, targets, entriesOnly, freshLog, actionChecks, actionGroups, cleanEntries, cleanAction}
 use Rattle.model.proofs.Tests.{by-eq, or-false}
 use Rattle.model.proofs.Lists.{all-by}
 use Rattle.model.proofs.Log.Decode.{decode}
@@ -29,9 +29,9 @@ use Rattle.model.proofs.Crash.Stores.{over-some}
 use Rattle.model.proofs.Crash.Commit.{Ready, ready-view, committed, Owed, nothing-safe}
 use Rattle.model.proofs.Crash.History.{Duty}
 use Rattle.model.proofs.Calls.Room.{Fresh, free-in, free-bounds, log-room, room-lone, room-found}
-use Rattle.model.proofs.Calls.Actions.{one-room, fresh-anew, anew-prepared, anew-changes, owed-sound}
+use Rattle.model.proofs.Calls.Actions.{room-passed, fresh-anew, anew-needed, anew-prepared, anew-changes, owed-sound}
 use Rattle.model.proofs.Calls.Still.{still-lay}
-use Rattle.model.proofs.Calls.Changed.{changed-fine}
+use Rattle.model.proofs.Calls.Changed.{Changed, changed-fine, changed-free}
 use Rattle.model.proofs.Calls.Stored.{Stored, high-same, valid-same, file-words, agree-after, after-by}
 use Rattle.model.proofs.Calls.Small.{SmallEntries, clean-names-small, clean-file-small, page-small, tail-small, lay-small}
 use Rattle.model.proofs.Calls.Grown.{DeadIn, few-pages}
@@ -161,10 +161,10 @@ module _ (P N : ℕ) (m : Mem) (r : Ready P N m) (k : ℕ) (below : k < N) (vali
         (λ q. rw q (let n : k ≡ 0 → ⊥ = λ e. v .0 (q ∙ e) in rw (file-now n) (kept-bytes m now (fileOf m P N k) (same-pages n))))
         (λ q. same-bytes m now P N i (log-ok m P N ok i l (v .1)) (agree-now i l q (v .1)) (v .0))
 
-    fine-now : viewOk now P N ≡ true
+    changed : Changed m now P N k ls (λ p. count p [])
     unfolding pages logOk count
-    fine-now =
-        changed-fine {ls = ls} {e = λ p. count p []} (record {
+    changed =
+        record {
           was-fine = ok;
           was-valid = valid;
           is-valid = rw (valid-now k below) valid;
@@ -175,9 +175,12 @@ module _ (P N : ℕ) (m : Mem) (r : Ready P N m) (k : ℕ) (below : k < N) (vali
           ends = λ n. rw (file-now n) (kept-end m now (fileOf m P N k) (same-pages n) ∙ inode-fine m P N k (inode-ok m P N ok k below) .end (file-is-file n));
           others = λ i l n. after-by did i l (off (validWord i) (omega arith) (omega arith)) (off (tailWord i) (omega arith) (omega arith)) (off (headWord i) (omega arith) (omega arith));
           names = rw names-now (kept-names m now N (namesOf m P N root) (names-in m P N root refl root-ok) (view-fine m P N ok .names) valid-now);
-        })
+        }
 
-    clean-owed : Owed P N (DeadIn P N) m s cs (mapAfter N (clean k) (mapOf m P N))
+    free-now : freeCount m P N - pagesFor (length es) ≤ freeCount now P N
+    free-now = omega (arith, changed-free [] changed, fresh .number)
+
+    clean-owed : Owed P N (freeCount m P N - pagesFor (length es)) (DeadIn P N) m s cs (mapAfter N (clean k) (mapOf m P N))
     unfolding mapAfter distinct has
     clean-owed =
         let b = few-pages P N (r .sizes) in
@@ -189,21 +192,23 @@ module _ (P N : ℕ) (m : Mem) (r : Ready P N m) (k : ℕ) (below : k < N) (vali
           in-table = in-table;
           apart = rw (ne-eqb (headWord k) (tailWord k) (omega arith));
           values = (omega arith, (tail-small P N (b .0) ls pages-in 0 (length es), tt));
-          fine = fine-now;
+          fine = changed-fine changed;
           new = kept-map m now P N valid-now names-now bytes-now;
+          was-free = omega arith;
+          now-free = free-now;
         }
 
 module _ (P N : ℕ) (m : Mem) (r : Ready P N m) where
   pub clean-done : (k : ℕ) → Duty P N m (clean k) (cleanAction m P N k)
-  unfolding actionChecks actionGroups roomChecks cleanAction mapAfter
+  unfolding actionChecks actionGroups cleanAction mapAfter
   clean-done k bytes p =
       let o = or-false (leb N k) (not (isValid m k)) (p .0) in
       let l = leb-false N k (o .0) in
       let v = not-false _ (o .1) in
       by-eq (m (tailWord k)) 0
-      (λ e. rw (eq-eqb _ _ e) (nothing-safe P N m _ r refl))
+      (λ e. rw (eq-eqb _ _ e) (nothing-safe P N _ m _ r (omega arith) refl))
       (λ e.
       let es = cleanEntries m P N k in
-      let room = room-found m P N (entriesOnly true k es) (sym (one-room m P (free m P N) (entriesOnly true k es)) ∙ (rw (ne-eqb _ _ e) at (p .1)) .0) in
-      rw (ne-eqb _ _ e, anew-prepared m P (free m P N) k es, anew-changes m P (free m P N) k es)
-      (owed-sound P N m r _ _ _ _ (clean-owed P N m r k l v (rw (fresh-anew m P (free m P N) k es) at (room .for-log)))))
+      let room = room-found m P N (entriesOnly true k es) (room-passed m P N false (entriesOnly true k es) (rw (ne-eqb _ _ e) at (p .1))) in
+      rw (ne-eqb _ _ e, anew-needed m P (free m P N) k es, anew-prepared m P (free m P N) k es, anew-changes m P (free m P N) k es)
+      (owed-sound P N m r _ _ _ _ _ (clean-owed P N m r k l v (rw (fresh-anew m P (free m P N) k es) at (room .for-log)))))

@@ -1,12 +1,12 @@
 -- The pages of data, a run or the lowest ones, are the lowest few from some page on, so that the laws of a search for few pages are theirs.
-use Rattle.model.proofs.Prelude.{ℕ, zero, suc, _+_, _-_, _≤_, _<_, _≡_, refl, sym, ap, _∙_, Bool, true, false, _&&_, _||_, List, [], _∷_, _++_, ⊎-elim, Option, none, some, arith, zero-add, add-zero, sub-zero, eqb, ltb, length, getD, eq-eqb, ne-eqb, lt-ltb, le-ltb, ltb-false}
+use Rattle.model.proofs.Prelude.{ℕ, zero, suc, _+_, _-_, _≤_, _<_, _≡_, refl, sym, ap, _∙_, Bool, true, false, _&&_, List, [], _∷_, _++_, ⊎-elim, Option, none, some, arith, zero-add, add-zero, sub-zero, eqb, length, getD, eq-eqb, ne-eqb, le-ltb, ltb-false}
 use Rattle.model.specs.Lists.{bit, allBelow, sumBelow, valuesFrom, lowestFew, has, distinct, orElse}
 use Rattle.model.specs.Stretches.{Stretch, ahead, stretches}
 use Rattle.model.specs.Words.{Mem}
 use Rattle.model.specs.Entry.{writeWords}
-use Rattle.model.specs.Calls.{stretchEntries, besides, lowestRun, runOr, lowestPages, Append, dataPages, appended, freshPages, freshLog, noRoom}
+use Rattle.model.specs.Calls.{stretchEntries, besides, lowestRun, runOr, lowestPages, Append, dataPages, appended, freshPages, freshLog, pagesNeeded, pagesLeft}
 use Rattle.model.specs.Promises.{stretchCount}
-use Rattle.model.proofs.Tests.{by-bool, by-eq, by-lt, not-true-false, no}
+use Rattle.model.proofs.Tests.{by-bool, by-eq, not-true-false, no, and-left}
 use Rattle.model.proofs.Lists.{allBelow-at, lowest-is, length-values, values-at, has-head, has-cons, few-holds, few-length, few-distinct}
 use Rattle.model.proofs.Counting.{few-lacks, besides-count}
 use Rattle.model.proofs.State.Stretches.{one-stretch, stretches-stand, ahead-alone}
@@ -63,26 +63,37 @@ module _ (f : ℕ → Bool) (P : ℕ) (bound : (p : ℕ) → f p ≡ true → p 
   unfolding lowestPages
   pages-enough h = let a = enough-by (lowestRun f P n) refl h in let b = pages-few in omega arith
 
--- Refusal 12 by the two searches: too few pages for the data, or too few left for the log.
-pub room-parts : (u : Mem) (P : ℕ) (f : ℕ → Bool) (a : Append) → ((p : ℕ) → f p ≡ true → p < P)
-    → noRoom u P f a ≡ (ltb (length (dataPages u P f a)) (a .count) || ltb (length (freshLog u P f a)) (freshPages u P f a))
-unfolding noRoom dataPages freshLog
-room-parts u P f a bound =
-    let c = a .count in
-    let q = freshPages u P f a in
-    let ds = lowestPages f P c in
-    let all = sumBelow P (λ p. bit (f p)) in
-    let left = sumBelow P (λ p. bit (besides f ds p)) in
-    let e : left + length ds ≡ all = pages-besides f P bound c in
-    let few = pages-few f P bound c in
-    let lacks = few-lacks (besides f ds) P q in
-    by-lt all (c + q)
-    (λ h.
-    rw (lt-ltb all (c + q) h)
-    (by-lt (length ds) c (λ i. rw (lt-ltb (length ds) c i)) (λ i. rw (le-ltb (length ds) c i, lacks) (sym (lt-ltb left q (omega arith))))))
-    (λ h.
-    let i = pages-enough f P bound c (omega arith) in
-    rw (le-ltb all (c + q) h, le-ltb (length ds) c (omega arith), lacks) (sym (le-ltb left q (omega arith))))
+-- A search finds as many pages as it seeks, if there are so many.
+pub few-enough : (f : ℕ → Bool) (P n : ℕ) → n ≤ sumBelow P (λ p. bit (f p)) → length (lowestFew f P 0 n) ≡ n
+few-enough f P n h =
+    let a = ltb-false _ n (few-lacks f P n ∙ le-ltb (sumBelow P (λ p. bit (f p))) n h) in let b = few-length f P 0 n in omega arith
+
+-- Where no fewer pages may be taken than an append needs, both its searches find theirs, and it leaves the others.
+module _ (u : Mem) (P : ℕ) (f : ℕ → Bool) (a : Append) (bound : (p : ℕ) → f p ≡ true → p < P)
+    (room : pagesNeeded u P f a ≤ sumBelow P (λ p. bit (f p))) where
+  abbrev may : ℕ → Bool
+  may = besides f (dataPages u P f a)
+
+  pub enough-data : length (dataPages u P f a) ≡ a .count
+  unfolding dataPages pagesNeeded
+  enough-data = pages-enough f P bound (a .count) (omega arith)
+
+  left-data : sumBelow P (λ p. bit (may p)) + a .count ≡ sumBelow P (λ p. bit (f p))
+  unfolding dataPages
+  left-data = let e = pages-besides f P bound (a .count) in let h = enough-data in omega arith
+
+  pub enough-log : length (freshLog u P f a) ≡ freshPages u P f a
+  unfolding freshLog pagesNeeded
+  enough-log = let e = left-data in few-enough may P (freshPages u P f a) (omega arith)
+
+  pub left-count : sumBelow P (λ p. bit (pagesLeft u P f a p)) + pagesNeeded u P f a ≡ sumBelow P (λ p. bit (f p))
+  unfolding freshLog pagesNeeded pagesLeft besides
+  left-count =
+      let q = freshPages u P f a in
+      let e = besides-count may P (lowestFew may P 0 q) (few-distinct may P 0 q)
+      (λ x h. let g = few-holds may P 0 q x h .0 in (g, bound x (and-left (f x) _ g))) in
+      let h = enough-log in
+      let d = left-data in omega arith
 
 -- "A write that found a run before gets the same answer as before": its data stands on the run, from page p on, in one entry.
 module _ (u : Mem) (P : ℕ) (f : ℕ → Bool) (a : Append) (p : ℕ) (e : lowestRun f P (a .count) ≡ some p) where

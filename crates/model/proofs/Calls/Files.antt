@@ -8,9 +8,9 @@ use Rattle.model.specs.Journal.{targetOk}
 use Rattle.model.specs.Entry.{fileEntryOk, sizeWords}
 use Rattle.model.specs.State.{fileOf, namesOf}
 use Rattle.model.specs.Log.{entries}
-use Rattle.model.specs.Accept.{isValid, isFile, free, mappedTo, logOk, endOk, viewOk}
+use Rattle.model.specs.Accept.{isValid, isFile, free, freeCount, mappedTo, logOk, endOk, viewOk}
 use Rattle.model.specs.FileMap.{FileMap, mapOf, mapAfter, write, setSize}
-use Rattle.model.specs.Calls.{Change, Append, stretchEntries, targets, dataPages, appended, freshPages, freshLog, noRoom, prepared, newTail, noFile, pagesCovered, writtenByte, writeAppend, cutsPage, keptByte, sizeAppend, roomChecks, actionChecks, actionGroups, writeAction, sizeAction}
+use Rattle.model.specs.Calls.{Change, Append, stretchEntries, targets, dataPages, appended, freshPages, freshLog, pagesNeeded, prepared, newTail, noFile, pagesCovered, writtenByte, writeAppend, cutsPage, keptByte, sizeAppend, actionChecks, actionGroups, writeAction, sizeAction}
 use Rattle.model.specs.Claim.{Bytes}
 use Rattle.model.proofs.Tests.{by-eq, by-lt, ands, or-false}
 use Rattle.model.proofs.Words.{leFrom-lt}
@@ -30,17 +30,18 @@ use Rattle.model.proofs.Crash.Commit.{Ready, ready-view, committed, Owe
 use Rattle.model.proofs.Crash.History.{Duty}
 use Rattle.model.proofs.Calls.Room.{Room, free-bounds, fresh-at, room-found}
 use Rattle.model.proofs.Calls.Still.{still-prepared}
+use Rattle.model.proofs.Calls.Changed.{changed-fine}
 use Rattle.model.proofs.Calls.Stored.{Stored, valid-same, agree-after, after-by, Appends}
 use Rattle.model.proofs.Calls.Small.{SmallEntries, cons-small, size-small, stretches-small}
-use Rattle.model.proofs.Calls.Grown.{DeadIn, few-pages, grown-file, grown-fine, grown-filled, grown-small, grown-tail}
+use Rattle.model.proofs.Calls.Grown.{few-pages, leaves, DeadIn, grown-file, grown-changed, grown-free, grown-filled, grown-small, grown-tail}
 use Rattle.model.proofs.Calls.Names.{target-here, target-other, target-none, target-ok}
-use Rattle.model.proofs.Calls.Actions.{one-room, plain-sound}
+use Rattle.model.proofs.Calls.Actions.{room-passed, plain-sound}
 
 -- An append to a file's log that is not refused.
 pub record Filing (P N : ℕ) (m : Mem) (a : Append) : Type 0 where
   pub ready : Ready P N m
   pub goes-on : a .anew ≡ false
-  pub room : noRoom m P (free m P N) a ≡ false
+  pub room : pagesNeeded m P (free m P N) a ≤ freeCount m P N
   pub below : a .log < N
   pub file : isFile m (a .log) ≡ true
   pub some-es : 0 < length (appended m P (free m P N) a)
@@ -132,11 +133,14 @@ module _ {P N : ℕ} {m : Mem} {a : Append} (c : Filing P N m a) where
       → ((p : ℕ) → (p ≡ 0 → ⊥) → mappedTo (fileAfter m P N a (dataPages m P (free m P N) a)) p
       ≤ mappedTo (fileOf m P N k) p + count p (dataPages m P (free m P N) a))
       → endOk now (fileAfter m P N a (dataPages m P (free m P N) a)) ≡ true → mapOf now P N ≡ M
-      → Owed P N (DeadIn P N) m (prepared m P (free m P N) a) (tail ∷ []) M
+      → Owed P N (leaves m P N a) (DeadIn P N) m (prepared m P (free m P N) a) (tail ∷ []) M
   unfolding distinct has
   filing-owed M entries-ok maps ends e =
       let g = sizes-whole P N (ready .sizes) .1 in
       let in-names = names-in m P N root refl (log-ok m P N ok 0 g (root-valid m P N ok g)) in
+      let changed = grown-changed appends (rw (ne-eqb _ _ not-root) entries-ok) (λ n p z. rw file-now (maps p z)) (λ n. rw file-now ends)
+      (λ i l n. after-by did i l (off (validWord i) (omega arith)) (off (tailWord i) (omega arith)) (off (headWord i) (omega arith)))
+      (rw names-now (kept-names m now N (namesOf m P N root) in-names (view-fine m P N ok .names) valid-now)) in
       record {
         harmless = did .still;
         small = grown-small appends (c .small-words) (c .small);
@@ -144,10 +148,10 @@ module _ {P N : ℕ} {m : Mem} {a : Append} (c : Filing P N m a) where
         in-table = in-table;
         apart = refl;
         values = (grown-tail appends, tt);
-        fine = grown-fine appends (rw (ne-eqb _ _ not-root) entries-ok) (λ n p z. rw file-now (maps p z)) (λ n. rw file-now ends)
-            (λ i l n. after-by did i l (off (validWord i) (omega arith)) (off (tailWord i) (omega arith)) (off (headWord i) (omega arith)))
-            (rw names-now (kept-names m now N (namesOf m P N root) in-names (view-fine m P N ok .names) valid-now));
+        fine = changed-fine changed;
         new = e;
+        was-free = omega arith;
+        now-free = grown-free appends changed;
       }
 
 module _ (P N : ℕ) (m : Mem) (r : Ready P N m) where
@@ -192,7 +196,7 @@ module _ (P N : ℕ) (m : Mem) (r : Ready P N m) where
 
   -- Write.
   module _ (k o : ℕ) (bs : List ℕ) (small : Bytes bs) (below : k < N) (file : isFile m k ≡ true) (short : length bs ≤ 4096)
-      (in-file : o + length bs ≤ 65536) (some-bytes : length bs ≡ 0 → ⊥) (room : noRoom m P (free m P N) (writeAppend m P N k o bs) ≡ false) where
+      (in-file : o + length bs ≤ 65536) (some-bytes : length bs ≡ 0 → ⊥) (room : pagesNeeded m P (free m P N) (writeAppend m P N k o bs) ≤ freeCount m P N) where
     abbrev w : Append
     w = writeAppend m P N k o bs
 
@@ -218,7 +222,7 @@ module _ (P N : ℕ) (m : Mem) (r : Ready P N m) where
               (pagesCovered o (o + length bs)) (o / 512) (run .2);
         }
 
-    write-owed : Owed P N (DeadIn P N) m (prepared m P (free m P N) w) (newTail m P (free m P N) w ∷ []) (mapAfter N (write k o bs) (mapOf m P N))
+    write-owed : Owed P N (leaves m P N w) (DeadIn P N) m (prepared m P (free m P N) w) (newTail m P (free m P N) w ∷ []) (mapAfter N (write k o bs) (mapOf m P N))
     unfolding writeAppend appended
     write-owed =
         let some : 0 < length bs = omega arith in
@@ -231,17 +235,17 @@ module _ (P N : ℕ) (m : Mem) (r : Ready P N m) where
         (rw (file-now write-call) (write-bytes m P N k o bs some (now write-call) ds f (before .0) (before .1) small)))
 
   pub write-done : (k o : ℕ) (bs : List ℕ) → Duty P N m (write k o bs) (writeAction m P N k o bs)
-  unfolding actionChecks actionGroups roomChecks writeAction
+  unfolding actionChecks actionGroups writeAction
   write-done k o bs bytes p =
       let f = file-of k (p .0) in
       by-eq (length bs) 0
-      (λ e. rw (eq-eqb _ _ e) (nothing-safe P N m _ r (sym (no-bytes N k o bs (mapOf m P N) e))))
+      (λ e. rw (eq-eqb _ _ e) (nothing-safe P N _ m _ r (omega arith) (sym (no-bytes N k o bs (mapOf m P N) e))))
       (λ e. rw (ne-eqb _ _ e) (plain-sound P N m r (writeAppend m P N k o bs) (goes-on-write k o bs) [] _
       (write-owed k o bs bytes (f .0) (f .1) (ltb-false _ _ (p .1 .0)) (ltb-false _ _ (p .1 .1 .0)) e
-      (sym (one-room m P (free m P N) _) ∙ (rw (ne-eqb _ _ e) at (p .1 .1 .1)) .0))))
+      (room-passed m P N true _ (rw (ne-eqb _ _ e) at (p .1 .1 .1))))))
 
   -- Set size.
-  module _ (k s : ℕ) (below : k < N) (file : isFile m k ≡ true) (in-file : s ≤ 65536) (room : noRoom m P (free m P N) (sizeAppend m P N k s) ≡ false) where
+  module _ (k s : ℕ) (below : k < N) (file : isFile m k ≡ true) (in-file : s ≤ 65536) (room : pagesNeeded m P (free m P N) (sizeAppend m P N k s) ≤ freeCount m P N) where
     abbrev z : Append
     z = sizeAppend m P N k s
 
@@ -265,7 +269,7 @@ module _ (P N : ℕ) (m : Mem) (r : Ready P N m) where
               (bit (cutsPage m P N k s)) (s / 512) (resize-run m P N k s in-file (small-was k below file)));
         }
 
-    size-owed : Owed P N (DeadIn P N) m (prepared m P (free m P N) z) (newTail m P (free m P N) z ∷ []) (mapAfter N (setSize k s) (mapOf m P N))
+    size-owed : Owed P N (leaves m P N z) (DeadIn P N) m (prepared m P (free m P N) z) (newTail m P (free m P N) z ∷ []) (mapAfter N (setSize k s) (mapOf m P N))
     unfolding sizeAppend appended
     size-owed =
         let before = file-before size-call in
@@ -277,10 +281,10 @@ module _ (P N : ℕ) (m : Mem) (r : Ready P N m) where
         (rw (file-now size-call) (resize-bytes m P N k s (now size-call) copied f (before .0) (before .1))))
 
   pub size-done : (k s : ℕ) → Duty P N m (setSize k s) (sizeAction m P N k s)
-  unfolding actionChecks actionGroups roomChecks sizeAction
+  unfolding actionChecks actionGroups sizeAction
   size-done k s bytes p =
       let f = file-of k (p .0) in
       by-eq s (fileOf m P N k .size)
-      (λ e. rw (eq-eqb _ _ e) (nothing-safe P N m _ r (sym (same-size m P N k s (f .0) (f .1) e))))
+      (λ e. rw (eq-eqb _ _ e) (nothing-safe P N _ m _ r (omega arith) (sym (same-size m P N k s (f .0) (f .1) e))))
       (λ e. rw (ne-eqb _ _ e) (plain-sound P N m r (sizeAppend m P N k s) (goes-on-size k s) [] _
-      (size-owed k s (f .0) (f .1) (ltb-false _ _ (p .1 .0)) (sym (one-room m P (free m P N) _) ∙ (rw (ne-eqb _ _ e) at (p .1 .1)) .0))))
+      (size-owed k s (f .0) (f .1) (ltb-false _ _ (p .1 .0)) (room-passed m P N true _ (rw (ne-eqb _ _ e) at (p .1 .1))))))

@@ -1,15 +1,15 @@
 -- An append, whoever makes it: the view after it is fine if its entries are ones that its log may hold and the file or the names they come to are
--- fine, and all that it stores lies inside the volume.
-use Rattle.model.proofs.Prelude.{_≡_, ℕ, _+_, _/_, _^_, _≤_, _<_, Bool, true, cond, List, _++_, map, arith, le-of-eq, getD, eqb, leb-true}
+-- fine, the pages that it did not take are still free, and all that it stores lies inside the volume.
+use Rattle.model.proofs.Prelude.{_≡_, ℕ, _+_, _-_, _/_, _^_, _≤_, _<_, Bool, true, cond, List, _++_, map, arith, le-of-eq, getD, eqb, leb-true}
 use Rattle.model.specs.Lists.{all, foldl, count}
 use Rattle.model.specs.Words.{Mem}
 use Rattle.model.specs.Layout.{sizesOk, headWord, tailWord, root, isDirectory}
 use Rattle.model.specs.Entry.{fileEntryOk, nameEntryOk}
 use Rattle.model.specs.Log.{tailSlots}
 use Rattle.model.specs.State.{fileOf, nameStep, namesOf}
-use Rattle.model.specs.Accept.{free, mappedTo, namesOk, endOk, viewOk}
+use Rattle.model.specs.Accept.{free, freeCount, mappedTo, namesOk, endOk}
 use Rattle.model.specs.Stores.{Stores}
-use Rattle.model.specs.Calls.{Change, Append, tailPages, dataPages, appended, freshPages, freshLog, prepared, newTail}
+use Rattle.model.specs.Calls.{Change, Append, tailPages, dataPages, appended, freshPages, freshLog, pagesNeeded, prepared, newTail}
 use Rattle.model.proofs.Tests.{ands}
 use Rattle.model.proofs.Log.Decode.{decode}
 use Rattle.model.proofs.Log.Append.{tail-inside, file-after, names-after, count-after, ok-after}
@@ -20,13 +20,17 @@ use Rattle.model.proofs.State.Append.{Filled, fileAfter}
 use Rattle.model.proofs.Crash.Stores.{Each, only-both, only-if, only-word}
 use Rattle.model.proofs.Crash.Commit.{committed}
 use Rattle.model.proofs.Calls.Room.{free-bounds, fresh-at, room-lone, pages-in, pages-value}
-use Rattle.model.proofs.Calls.Changed.{After, changed-fine}
+use Rattle.model.proofs.Calls.Changed.{After, Changed, changed-free}
 use Rattle.model.proofs.Calls.Stored.{Stored, file-words, Appends, fits, reads-after, data-stored, valid-after, prepared-on, tail-on}
 use Rattle.model.proofs.Calls.Small.{Inside, SmallEntries, page-small, tail-small, lay-small}
 
 pub few-pages : (P N : ℕ) → sizesOk P N ≡ true → (P ≤ 4096) × (N ≤ 256) × (N / 8 + 4 ≤ P)
 unfolding sizesOk
 few-pages P N s = (leb-true P 4096 (search ands), leb-true N 256 (search ands), leb-true (N / 8 + 4) P (search ands))
+
+-- the pages that an append leaves free
+abbrev pub leaves : Mem → ℕ → ℕ → Append → ℕ
+leaves m P N a = freeCount m P N - pagesNeeded m P (free m P N) a
 
 -- dead words of views of P pages and N inodes
 abbrev pub DeadIn : ℕ → ℕ → Mem → ℕ → Type 0
@@ -53,14 +57,14 @@ module _ {m : Mem} {P N : ℕ} {a : Append} {s : Stores} {cs : List Change} (c :
   pub grown-names : namesOf now P N (a .log) ≡ foldl nameStep (namesOf m P N (a .log)) (map decode (appended m P f a))
   grown-names = names-after (fits c) now (reads-after c)
 
-  -- the view after it
-  pub grown-fine : cond (isDirectory m (a .log)) (all (nameEntryOk N) (map decode (appended m P f a))) (all (fileEntryOk P N) (map decode (appended m P f a))) ≡ true
+  -- what changes by it
+  pub grown-changed : cond (isDirectory m (a .log)) (all (nameEntryOk N) (map decode (appended m P f a))) (all (fileEntryOk P N) (map decode (appended m P f a))) ≡ true
       → ((a .log ≡ 0 → ⊥) → (p : ℕ) → (p ≡ 0 → ⊥) → mappedTo (fileOf now P N (a .log)) p ≤ mappedTo (fileOf m P N (a .log)) p + count p ds)
       → ((a .log ≡ 0 → ⊥) → endOk now (fileOf now P N (a .log)) ≡ true)
       → ((i : ℕ) → i < N → (i ≡ a .log → ⊥) → After m now P N i)
-      → namesOk now N (namesOf now P N root) ≡ true → viewOk now P N ≡ true
-  grown-fine entries-ok maps ends others names =
-      changed-fine (record {
+      → namesOk now N (namesOf now P N root) ≡ true → Changed m now P N (a .log) (freshLog m P f a) (λ p. count p ds)
+  grown-changed entries-ok maps ends others names =
+      record {
         was-fine = ok;
         was-valid = valid;
         is-valid = valid-after c;
@@ -71,7 +75,12 @@ module _ {m : Mem} {P N : ℕ} {a : Append} {s : Stores} {cs : List Change} (c :
         ends = ends;
         others = others;
         names = names;
-      })
+      }
+
+  -- and how many pages are free then
+  pub grown-free : Changed m now P N (a .log) (freshLog m P f a) (λ p. count p ds) → leaves m P N a ≤ freeCount now P N
+  unfolding pagesNeeded
+  grown-free h = omega (arith, changed-free ds h, room .for-log .number, room .for-data .number)
 
   -- what stands in it for a file
   pub grown-filled : (a .log ≡ 0 → ⊥) → Filled m now P N a ds

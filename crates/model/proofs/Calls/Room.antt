@@ -1,14 +1,14 @@
 -- The free pages that a call takes: each once, and serving nobody. That is what the searches find where refusal 12 does not hold.
-use Rattle.model.proofs.Prelude.{_≡_, refl, sym, _∙_, _⊎_, inl, inr, ℕ, _+_, _*_, _/_, _%_, _≤_, _<_, Bool, true, false, List, [], none, some, arith, length, getD, ltb, eqb-true, ltb-false, not-true, le-ltb, lt-ltb}
-use Rattle.model.specs.Lists.{lowestFew, has, count, indexOf, distinct}
+use Rattle.model.proofs.Prelude.{_≡_, refl, sym, _∙_, _⊎_, inl, inr, ℕ, _+_, _*_, _/_, _%_, _≤_, _<_, true, false, List, [], none, some, arith, length, getD, ltb, eqb-true, not-true, le-ltb, lt-ltb}
+use Rattle.model.specs.Lists.{has, count, indexOf, distinct}
 use Rattle.model.specs.Words.{Mem}
 use Rattle.model.specs.Layout.{inPages}
-use Rattle.model.specs.Accept.{uses, free}
-use Rattle.model.specs.Calls.{Append, layPages, besides, lowestPages, dataPages, freshPages, freshLog, noRoom}
-use Rattle.model.proofs.Tests.{by-bool, no, not-some, ands, or-false, cond-some}
-use Rattle.model.proofs.Lists.{few-holds, few-length, few-distinct, has-getD, index-none, index-getD, count-none, count-once}
+use Rattle.model.specs.Accept.{uses, free, freeCount}
+use Rattle.model.specs.Calls.{Append, layPages, besides, dataPages, freshPages, freshLog, pagesNeeded}
+use Rattle.model.proofs.Tests.{by-bool, no, not-some, ands, cond-some}
+use Rattle.model.proofs.Lists.{few-holds, few-distinct, has-getD, index-none, index-getD, count-none, count-once}
 use Rattle.model.proofs.Frame.Placed.{in-bounds, zero-outside}
-use Rattle.model.proofs.Calls.DataPages.{pages-hold, pages-apart, pages-few, room-parts}
+use Rattle.model.proofs.Calls.DataPages.{pages-hold, pages-apart, enough-data, enough-log}
 
 -- n free pages, each once
 pub record Fresh (u : Mem) (P N : ℕ) (ls : List ℕ) (n : ℕ) : Type 0 where
@@ -43,34 +43,24 @@ module _ (u : Mem) (P N : ℕ) where
   pub fresh-at : (ls : List ℕ) (n : ℕ) → Fresh u P N ls n → (i : ℕ) → i < n → free u P N (getD ls i 0) ≡ true
   fresh-at ls n f i l = f .unused (getD ls i 0) (has-getD ls i (omega (arith, f .number)))
 
-  -- what a search for n free pages finds, if it finds enough
-  pub fresh-few : (f : ℕ → Bool) (n : ℕ) → ((p : ℕ) → f p ≡ true → free u P N p ≡ true) → ltb (length (lowestFew f P 0 n)) n ≡ false
-      → Fresh u P N (lowestFew f P 0 n) n
-  fresh-few f n g e =
-      let a = ltb-false (length (lowestFew f P 0 n)) n e in
-      let b = few-length f P 0 n in
-      record { number = omega arith; apart = few-distinct f P 0 n; unused = λ x h. g x (few-holds f P 0 n x h .0) }
-
-  -- the n pages that data goes to, if there are enough
-  fresh-data : (n : ℕ) → ltb (length (lowestPages (free u P N) P n)) n ≡ false → Fresh u P N (lowestPages (free u P N) P n) n
-  fresh-data n e =
-      let b : (p : ℕ) → free u P N p ≡ true → p < P = λ p h. free-bounds p h .1 in
-      let a = ltb-false (length (lowestPages (free u P N) P n)) n e in
-      let few = pages-few (free u P N) P b n in
-      record { number = omega arith; apart = pages-apart (free u P N) P b n; unused = λ x h. pages-hold (free u P N) P b n x h .0 }
-
   -- the pages of an append that is not refused with 12
-  pub room-found : (a : Append) → noRoom u P (free u P N) a ≡ false
+  pub room-found : (a : Append) → pagesNeeded u P (free u P N) a ≤ freeCount u P N
       → Room u P N (dataPages u P (free u P N) a) (a .count) (freshLog u P (free u P N) a) (freshPages u P (free u P N) a)
-  unfolding freshLog dataPages besides
+  unfolding freshLog dataPages besides freeCount
   room-found a e =
-      let o = or-false _ _ (sym (room-parts u P (free u P N) a (λ p h. free-bounds p h .1)) ∙ e) in
       let f = free u P N in
+      let b : (p : ℕ) → f p ≡ true → p < P = λ p h. free-bounds p h .1 in
       let ds = dataPages u P f a in
+      let q = freshPages u P f a in
+      let c = a .count in
       record {
-        for-data = fresh-data (a .count) (o .0);
-        for-log = fresh-few (besides f ds) (freshPages u P f a) (λ p h. search ands) (o .1);
-        beside = λ x h. let g = few-holds (besides f ds) P 0 (freshPages u P f a) x h .0 in not-true (has x ds) (search ands);
+        for-data = record { number = enough-data u P f a b e; apart = pages-apart f P b c; unused = λ x h. pages-hold f P b c x h .0 };
+        for-log = record {
+          number = enough-log u P f a b e;
+          apart = few-distinct (besides f ds) P 0 q;
+          unused = λ x h. let g = few-holds (besides f ds) P 0 q x h .0 in search ands;
+        };
+        beside = λ x h. let g = few-holds (besides f ds) P 0 q x h .0 in not-true (has x ds) (search ands);
       }
 
 -- Pages that a call takes: e p is how often it takes page p, once at most, and only where p is free.

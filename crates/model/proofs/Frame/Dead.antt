@@ -5,10 +5,10 @@ use Rattle.model.specs.Words.{Mem}
 use Rattle.model.specs.Layout.{sizesOk, validWord, headWord, tailWord, inPages, filePages}
 use Rattle.model.specs.Log.{pages}
 use Rattle.model.specs.State.{fileOf}
-use Rattle.model.specs.Accept.{isValid, usesBy, uses, free, viewOk}
+use Rattle.model.specs.Accept.{isValid, usesBy, uses, free, freeCount, viewOk}
 use Rattle.model.specs.FileMap.{mapOf}
 use Rattle.model.proofs.Tests.{by-eq, clash, ands}
-use Rattle.model.proofs.Lists.{sumBelow-one, sumBelow-two, has-count}
+use Rattle.model.proofs.Lists.{sumBelow-same, sumBelow-one, sumBelow-two, has-count}
 use Rattle.model.proofs.Frame.Placed.{sizes-whole, in-bounds, mapped-at, SamePages}
 use Rattle.model.proofs.Frame.Inode.{page-in, tail-page, mapped-in, Agree}
 use Rattle.model.proofs.Frame.View.{log-ok, once, same-uses, same-viewOk, same-map}
@@ -111,7 +111,11 @@ module _ (P N : ℕ) (s : sizesOk P N ≡ true) (u u′ : Mem) (ok : viewOk u P 
         file = data-pages k l v;
       }
 
-  pub frame : (viewOk u′ P N ≡ true) × (mapOf u′ P N ≡ mapOf u P N) × ((p : ℕ) → uses u′ P N p ≡ uses u P N p)
+  pub frame : (viewOk u′ P N ≡ true) × (mapOf u′ P N ≡ mapOf u P N) × (freeCount u′ P N ≡ freeCount u P N)
+  unfolding freeCount free
   frame =
-      let g = sizes-whole P N s .1 in
-      (same-viewOk u P N ok u′ same-valid agrees g ∙ ok, same-map u P N ok u′ same-valid agrees g, same-uses u P N ok u′ same-valid agrees)
+      let g = sizes-whole P N s .1 in (
+        same-viewOk u P N ok u′ same-valid agrees g ∙ ok,
+        same-map u P N ok u′ same-valid agrees g,
+        sumBelow-same P _ _ (λ p l. rw (same-uses u P N ok u′ same-valid agrees p)),
+      )

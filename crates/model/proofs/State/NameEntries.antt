@@ -5,12 +5,12 @@ use Rattle.model.specs.Words.{Mem}
 use Rattle.model.specs.Layout.{isDirectory}
 use Rattle.model.specs.Entry.{Entry, writeEntry, sizeEntry, addEntry, removeEntry, noEntry, entryAt, nameOk, fieldOk, nameEntryOk, addWords, removeWords}
 use Rattle.model.specs.Log.{pages, tailSlots, entryWords, entries}
-use Rattle.model.specs.State.{Names, isNamed, without, withName, nameStep, namesOf, inodes}
+use Rattle.model.specs.State.{Names, isNamed, without, withName, nameStep, namesOf, inodeOf, inodes}
 use Rattle.model.specs.Accept.{logOk}
 use Rattle.model.specs.Calls.{cleanNames}
 use Rattle.model.specs.Claim.{Bytes}
 use Rattle.model.proofs.Tests.{by-bool, by-eq, ands, bit-other}
-use Rattle.model.proofs.Lists.{all-cons, same-sym}
+use Rattle.model.proofs.Lists.{all-cons, same-true, same-sym}
 use Rattle.model.proofs.Log.Decode.{decode, decode-add, decode-remove, take-padded, name-short, add-ok, remove-ok, bytes-take, bytes-field}
 use Rattle.model.proofs.State.Names.{standsIn, DistinctNames, without-same, without-other, not-in, without-absent, distinct-fold}
 use Rattle.model.proofs.State.NamesFine.{NamesIn}
@@ -76,6 +76,13 @@ unfolding count
 good-inode N [] k g c = absurd (omega arith)
 good-inode N (p ∷ ps) k g c =
     by-eq k (p .1) (λ e. rw e (g .0 .first, g .0 .below)) (λ e. let b = bit-other k (p .1) e in good-inode N ps k (g .1) (omega arith))
+
+-- a name that stands is one that may stand
+pub standing-ok : (N : ℕ) (ns : Names) → GoodNames N ns → (n : List ℕ) → (inodeOf ns n ≡ 0 → ⊥) → nameOk n ≡ true
+unfolding inodeOf
+standing-ok N [] g n h = absurd (h refl)
+standing-ok N (p ∷ ps) g n h =
+    by-bool (isNamed n p) (λ t. let e = same-true (p .0) n t in rw (← e) (g .0 .fine)) (λ t. standing-ok N ps (g .1) n (λ z. h (rw (inodeOf, t) z)))
 
 -- the names of a directory whose log is accepted
 module _ (u : Mem) (P N d : ℕ) (dir : isDirectory u d ≡ true) (ok : logOk u P N d ≡ true) where

@@ -17,17 +17,17 @@ link-spec =
     (λ c. search)
     (λ c. search link-told)
     (λ c κs. search)
+    (λ c κs. search)
     (λ c. search needs)
     (λ c κs.
-    let b1 = c .before .before .before in let o = b1 .add-words .ensures in
-    let b2 = b1 .before .before .before .before .before .before .before in let e = b2 .gate .given .1 in let b3 = b2 .before .before in
-    let g = b3 .filling .ensures in
-    let l = now (b3 .before .before .before .before .before .before .before .args .list) in
-    one-ready _ l _ _ _ g _ e _ _ _ _ o (add-long _ _) (some-inodes _ l _ _ _ g _ e))
+    let b1 = c .before .before in let r = b1 .to-root .ensures in let b2 = b1 .before .before in let o = b2 .add-words .ensures in
+    let b3 = b2 .before .before .before .before .before .before .before in let e = b3 .gate .given .1 in let b4 = b3 .before .before in
+    let g = b4 .filling .ensures in let l = now (b4 .before .before .before .before .before .before .before .args .list) in
+    one-ready _ l _ _ _ g _ e _ _ _ _ r _ _ o (add-long _ _) (some-inodes _ l _ _ _ g _ e))
     (λ c. search)
     (λ c.
-    let a = c .before .before .append-root .ensures in let b1 = c .before .before .before .before .before .before in
-    let o = b1 .add-words .ensures in let b2 = b1 .before .before in let j = b2 .found .given .1 in let b3 = b2 .before .before in
-    let h = b3 .link-checks .ensures in let b4 = b3 .before .before .before in let e = b4 .gate .given .1 in let b5 = b4 .before .before in
-    let g = b5 .filling .ensures in
-    link-comes _ _ _ _ _ g _ e _ _ _ h _ j _ o _ _ a))
+    let b1 = c .before .before in let a = b1 .append-entries .ensures in let b2 = b1 .before .before .before in
+    let r = b2 .to-root .ensures in let b3 = b2 .before .before in let o = b3 .add-words .ensures in let b4 = b3 .before .before in
+    let j = b4 .found .given .1 in let b5 = b4 .before .before in let h = b5 .link-checks .ensures in
+    let b6 = b5 .before .before .before in let e = b6 .gate .given .1 in let b7 = b6 .before .before in let g = b7 .filling .ensures in
+    link-comes _ _ _ _ _ g _ e _ _ _ h _ j _ o _ r _ _ a))

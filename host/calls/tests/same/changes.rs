@@ -70,6 +70,7 @@ fn histories_of_small_volumes() {
     counts.reached(&["create", "link"], &[7], 100);
     counts.reached(&["write"], &[8], 100);
     counts.reached(&["write", "set_size"], &[9], 100);
+    counts.reached(&["create", "link", "write", "set_size"], &[15], 10);
     counts.reached(&["create"], &[10], 100);
     let idle = ["rename", "write", "set_size", "clean", "recover"];
     counts.reached(&idle, &[NOTHING], 20);
@@ -245,6 +246,7 @@ fn free_pages_run_out() {
     }
     counts.reached(&CHANGES[..7], &[0, 12], 2);
     counts.reached(&["write", "set_size", "clean"], &[0, 12], 20);
+    counts.reached(&["create", "link", "write", "set_size"], &[15], 2);
 }
 
 /// A file of 128 single stretches, the longest log that clean can write for a file, and a log of 21 entries

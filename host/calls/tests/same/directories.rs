@@ -193,7 +193,9 @@ fn changes(
         true => Ok(after),
         false => Err(Refusal::NoSpace),
     };
+    // create and link keep one page back
     let one_more = |name: &[u8], inode: u64| match names.len() < 224 {
+        true if left_in_page == 0 && free == 1 => Err(Refusal::LastPage),
         true => room(1, with(names, name, inode)),
         false => Err(Refusal::DirectoryFull),
     };

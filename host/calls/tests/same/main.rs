@@ -12,6 +12,7 @@ mod directories;
 mod gaps;
 mod histories;
 mod large;
+mod last_page;
 mod lent;
 mod lists;
 mod made_up;

@@ -3,6 +3,7 @@
 use super::{names, open, PART};
 use crate::arguments::Arguments;
 use crate::failure::{refused, Failure, Outcome};
+use crate::room::{is_stuck, way_out};
 use crate::show;
 use crate::store::Store;
 use crate::text::{counted, say, shown_name};
@@ -28,6 +29,9 @@ fn accepted(store: &Store, free: u64) -> Outcome {
         counted(free, "free page"),
     );
     say(&format!("accepted: {count}, {free}, journal closed"))?;
+    if is_stuck(store.volume()) {
+        say(&way_out(store.volume(), &store.shown()))?;
+    }
     if names.iter().any(|name| name == PART) {
         let (name, volume) = (shown_name(PART), store.shown());
         say(&format!(

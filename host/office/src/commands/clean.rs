@@ -3,6 +3,7 @@
 use super::{free, inode, names, open_to_change};
 use crate::arguments::Arguments;
 use crate::failure::{refused, Failure, Outcome};
+use crate::room::{is_stuck, way_out};
 use crate::store::Store;
 use crate::text::{complain, say, thousands};
 use calls::layout::DIRECTORY;
@@ -19,10 +20,14 @@ pub fn run(arguments: &Arguments) -> Outcome {
     let after = thousands(free(&store)?);
     store.say_if_uncut();
     say(&format!("free pages: {before} before, {after} after"))?;
-    if skipped > 0 {
-        return Err(Failure::Said(1));
+    if skipped == 0 {
+        return Ok(());
     }
-    Ok(())
+    if is_stuck(store.volume()) {
+        let (volume, shown) = (store.volume(), store.shown());
+        complain(&format!("{shown}: {}", way_out(volume, &shown)));
+    }
+    Err(Failure::Said(1))
 }
 
 /// The inodes to clean, ascending, so the directory first.

@@ -1,10 +1,11 @@
 //! `ls`, `map`, `gaps` and `log`: what the volume holds, as text.
 
-use super::{inode, names_of, open};
+use super::{inode, open};
 use crate::arguments::Arguments;
 use crate::failure::{Failure, Outcome};
 use crate::files::{in_the_way, write_whole};
 use crate::show;
+use crate::store::names_of;
 use crate::text::{print, shown_name};
 use calls::layout::DIRECTORY;
 use refusal::Refusal;

@@ -13,10 +13,9 @@ mod table;
 use crate::arguments::Arguments;
 use crate::failure::{Failure, Outcome};
 use crate::help::{of_command, overview, Command};
-use crate::store::{Mode, Store};
+use crate::room::{planned, Change, Keeping};
+use crate::store::{names_of, Mode, Store};
 use crate::text::{print, shown_name, shown_path};
-use calls::layout::NAME_BYTES;
-use refusal::Refusal;
 use std::ffi::{OsStr, OsString};
 use std::io::{self, Write};
 
@@ -80,19 +79,6 @@ fn names(store: &Store) -> Result<Vec<Vec<u8>>, Failure> {
     names_of(store.volume()).map_err(|refusal| store.refused_whole(refusal))
 }
 
-fn names_of(volume: &[u8]) -> Result<Vec<Vec<u8>>, Refusal> {
-    let mut names = Vec::new();
-    loop {
-        let mut name = vec![0; NAME_BYTES];
-        match calls::kth_name(volume, names.len() as u64, &mut name) {
-            Ok(length) => name.truncate(length as usize),
-            Err(Refusal::NotThere) => return Ok(names),
-            Err(refusal) => return Err(refusal),
-        }
-        names.push(name);
-    }
-}
-
 /// The count of free pages.
 fn free(store: &Store) -> Result<u64, Failure> {
     calls::free_count(store.volume()).map_err(|refusal| store.refused_whole(refusal))
@@ -122,9 +108,18 @@ fn remove_part(store: &mut Store) -> Result<bool, Failure> {
     if calls::find(store.volume(), PART).is_err() {
         return Ok(false);
     }
-    store.change(&shown_name(PART), |volume, list| {
-        calls::unlink(volume, PART, list)
+    let what = shown_name(PART);
+    let change = Change {
+        what: &what,
+        file: None,
+        keeping: Keeping::IfPossible,
+    };
+    let planned = planned(store, &change, |plan| {
+        store.ask(plan, &what, |volume, list| {
+            calls::unlink(volume, PART, list)
+        })
     })?;
+    planned.finish(store)?;
     Ok(true)
 }
 

@@ -5,6 +5,7 @@ use crate::arguments::Arguments;
 use crate::failure::{Failure, Outcome};
 use crate::files::{Source, Sources};
 use crate::progress::Progress;
+use crate::room::{planned, say_cleaned, Change, Keeping};
 use crate::store::{Plan, Store};
 use crate::text::{complain, counted, say, shown_name};
 use calls::layout::WRITE_LIMIT;
@@ -94,17 +95,23 @@ fn check_sources(sources: &Sources) -> Outcome {
 fn put_all(store: &mut Store, files: &[Source], asked: bool) -> Result<(u64, u64), Failure> {
     let bytes = files.iter().map(|file| file.size).sum();
     let mut progress = Progress::new(files.len() as u64, bytes, asked);
-    for (place, file) in files.iter().enumerate() {
-        if let Err(failure) = put_one(store, file, &mut progress) {
-            drop(progress);
-            if files.len() > 1 && !matches!(failure, Failure::Cut { .. }) {
-                say_how_far(&files[..place], &files[place..]);
-            }
-            return Err(failure);
+    let mut cleaned = Vec::new();
+    let mut put = Ok(());
+    for file in files {
+        put = put_one(store, file, &mut progress, &mut cleaned);
+        if put.is_err() {
+            break;
         }
         progress.add_file();
     }
-    Ok((progress.files(), progress.bytes()))
+    let (count, bytes) = (progress.files(), progress.bytes());
+    drop(progress);
+    say_cleaned(&cleaned);
+    if put.is_err() && files.len() > 1 && !matches!(put, Err(Failure::Cut { .. })) {
+        let (done, left) = files.split_at(count as usize);
+        say_how_far(done, left);
+    }
+    put.map(|()| (count, bytes))
 }
 
 fn say_how_far(done: &[Source], left: &[Source]) {
@@ -116,22 +123,43 @@ fn say_how_far(done: &[Source], left: &[Source]) {
     }
 }
 
-/// Puts one file. All its calls are asked for on a copy first, so that a refusal stores nothing.
-fn put_one(store: &mut Store, file: &Source, progress: &mut Progress) -> Outcome {
+/// Puts one file, and notes which logs are cleaned for it. All its calls are asked for on a copy
+/// first, so that a refusal stores nothing.
+fn put_one(
+    store: &mut Store,
+    file: &Source,
+    progress: &mut Progress,
+    cleaned: &mut Vec<String>,
+) -> Outcome {
     let bytes = file.read()?;
     let pieces: Vec<&[u8]> = bytes.chunks(WRITE_LIMIT).collect();
-    let plan = planned(store, &file.name, &pieces)
-        .map_err(|refusal| store.refused(&shown_name(&file.name), refusal))?;
+    let change = Change {
+        what: &shown_name(&file.name),
+        file: None,
+        keeping: match calls::find(store.volume(), &file.name) {
+            Ok(_) => Keeping::IfTaking,
+            Err(_) => Keeping::Always,
+        },
+    };
+    let planned = planned(store, &change, |plan| {
+        let asked = ask(plan, &file.name, &pieces);
+        asked.map_err(|refusal| store.refused(change.what, refusal))
+    })?;
     // The first list is the create's, then come the pieces, last the rename's.
-    store.carry_out(plan, |list| {
+    let logs = planned.carry_out(store, |list| {
         let piece = list.checked_sub(1).and_then(|piece| pieces.get(piece));
         progress.add_bytes(piece.map_or(0, |piece| piece.len() as u64));
-    })
+    })?;
+    for log in logs {
+        if !cleaned.contains(&log) {
+            cleaned.push(log);
+        }
+    }
+    Ok(())
 }
 
 /// The calls that put a file: it is created under a name of put's own, written, and renamed to its name.
-fn planned(store: &Store, name: &[u8], pieces: &[&[u8]]) -> Result<Plan, Refusal> {
-    let mut plan = store.plan();
+fn ask(plan: &mut Plan, name: &[u8], pieces: &[&[u8]]) -> Result<(), Refusal> {
     plan.call(|volume, list| calls::create(volume, PART, list))?;
     let inode = calls::find(plan.volume(), PART)?;
     let mut offset = 0;
@@ -140,5 +168,5 @@ fn planned(store: &Store, name: &[u8], pieces: &[&[u8]]) -> Result<Plan, Refusal
         offset += piece.len() as u64;
     }
     plan.call(|volume, list| calls::rename(volume, PART, name, list))?;
-    Ok(plan)
+    Ok(())
 }

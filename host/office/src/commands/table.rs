@@ -69,7 +69,11 @@ two of one name) are all listed before the first store, and nothing is put.
 Each file is put whole or not at all, whatever the power does: it is written
 under the name .office-part and renamed at the end. A .office-part that a killed
 put left is removed by the next put, and by recover. If the volume refuses a
-file, nothing of it is stored; put says which files are in and which are not.",
+file, nothing of it is stored; put says which files are in and which are not.
+
+So many pages stay free that the directory's log and the longest log of a file
+can be cleaned, and files removed; a file that would leave fewer is refused.
+Where there is no room, put cleans logs first, if that helps, and says which.",
         options: &[
             Choice {
                 name: "--as",
@@ -142,7 +146,8 @@ as \\xNN; elsewhere names are written as they are.",
         summary: "renames a file, over a file that has the new name",
         text: "\
 Renames OLD to NEW. A file that has the name NEW loses it, and goes if it has no
-other. If both names lead to one file, nothing changes.",
+other. If both names lead to one file, nothing changes. Where there is no room,
+mv cleans logs first, if that helps, and says which.",
         options: &[CUT],
         example: "office mv day.vol fresh.txt arrivals.txt",
         least: 3,
@@ -153,7 +158,10 @@ other. If both names lead to one file, nothing changes.",
         name: "ln",
         forms: &["VOLUME OLD NEW [--cut GROUP]"],
         summary: "gives a file one more name",
-        text: "Gives the file OLD the name NEW too. NEW must not stand.",
+        text: "\
+Gives the file OLD the name NEW too. NEW must not stand. As many pages stay free
+as with put. Where there is no room, ln cleans logs first, if that helps, and
+says which.",
         options: &[CUT],
         example: "office ln day.vol arrivals.txt gate.txt",
         least: 3,
@@ -166,7 +174,8 @@ other. If both names lead to one file, nothing changes.",
         summary: "removes names; a file left without a name goes",
         text: "\
 Removes each NAME; a file left without a name goes. If one of them is refused,
-none is removed. A power cut leaves the first ones removed.",
+none is removed. A power cut leaves the first ones removed. Where there is no
+room, rm cleans logs first, if that helps, and says which.",
         options: &[CUT],
         example: "office rm day.vol cancelled.txt",
         least: 2,
@@ -179,7 +188,8 @@ none is removed. A power cut leaves the first ones removed.",
         summary: "cuts or lengthens a file to a size",
         text: "\
 Cuts or lengthens the file to SIZE bytes, at most 65536. What is added reads as
-zeros.",
+zeros. If it takes pages, as many stay free as with put. Where there is no room,
+truncate cleans logs first, if that helps, and says which.",
         options: &[CUT],
         example: "office truncate day.vol arrivals.txt 0",
         least: 3,
@@ -194,7 +204,7 @@ zeros.",
 Writes the logs of these files, or of the directory, anew, with only the entries
 that they need; with neither, of the directory and every file. Says the free
 pages before and after. A log for which there is no room is skipped, which is
-said, and the exit status is then 1.",
+said, and the exit status is then 1. Commands that need room clean by themselves.",
         options: &[
             Choice {
                 name: "--directory",
@@ -227,7 +237,8 @@ Puts the old values of an open journal back and closes it, then removes a
         summary: "says whether the volume is accepted, and if not, why",
         text: "\
 Says whether the volume is accepted, with exit status 0; or how it is refused and
-why, with exit status 1.",
+why, with exit status 1. Where no name can be removed and no log cleaned for want
+of a page, it also says how the files get into a new volume.",
         options: &[],
         example: "office check day.vol",
         least: 1,

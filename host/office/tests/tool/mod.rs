@@ -4,7 +4,7 @@
 use office::commands::PART;
 use reference::layout::WRITE_LIMIT;
 use reference::{judge, Call, FileMap};
-use samples::{create, done, map_of, rename, run, unlink, write};
+use samples::{create, done, map_of, rename, run, set_size, text, unlink, write};
 use std::ffi::OsStr;
 use std::fs;
 use std::io::Write;
@@ -33,16 +33,25 @@ impl Folder {
         folder
     }
 
-    /// A folder with a volume "v" of 64 pages and 32 inodes on which no three free pages lie side by side: 24 files of one
-    /// page, "b00" to "b23", filled it, and every second one of them, from "b00" on, is removed.
+    /// A folder with a volume "v" of 64 pages and 32 inodes on which no three free pages lie side by
+    /// side: 24 files of one page, "b00" to "b23", filled it, by the calls alone, and every second
+    /// one of them, from "b00" on, is removed.
     pub fn with_scattered_gaps(test: &str) -> Folder {
-        let folder = Folder::with_volume(test, 64, 32);
+        let mut volume = samples::formatted(64, 32);
         let names: Vec<String> = (0..24).map(|number| format!("b{number:02}")).collect();
-        for name in &names {
-            folder.write(format!("day/{name}"), name.as_bytes());
+        let files = names
+            .iter()
+            .map(|name| (name.clone().into(), name.clone().into()));
+        let calls = calls_of_put(&volume, &files.collect::<Vec<_>>());
+        for call in &calls {
+            done(&mut volume, call);
         }
-        let all = "24 files put, 72 bytes; 0 pages free\n";
-        folder.says(&["put", "v", "day"], all);
+        let folder = Folder::new(test);
+        folder.write("v", &volume);
+        folder.says(
+            &["check", "v"],
+            "accepted: 24 names, 0 free pages, journal closed\n",
+        );
         let second = names.iter().step_by(2).map(String::as_str);
         let remove: Vec<&str> = ["rm", "v"].into_iter().chain(second).collect();
         folder.says(&remove, "");
@@ -132,6 +141,14 @@ impl Folder {
         assert_eq!(String::from_utf8_lossy(&self.done(arguments)), out);
     }
 
+    /// Runs a command that must be done and say this, and that cleaning these logs made room.
+    pub fn says_cleaned(&self, arguments: &[impl AsRef<OsStr>], out: &str, logs: &str) {
+        let ran = self.office(arguments);
+        let line = format!("office: room was made by cleaning {logs}\n");
+        assert_eq!((ran.status, ran.err.as_str()), (0, line.as_str()));
+        assert_eq!(String::from_utf8_lossy(&ran.out), out);
+    }
+
     /// Runs a command that must end with this status and this on standard error, and say nothing else.
     pub fn fails(&self, arguments: &[impl AsRef<OsStr>], status: i32, err: &str) {
         let ran = self.office(arguments);
@@ -144,6 +161,28 @@ impl Drop for Folder {
     fn drop(&mut self) {
         let _ = fs::remove_dir_all(&self.path);
     }
+}
+
+/// A volume of 16 pages and 8 inodes with the files "a" (one page) and "e" (empty). The logs of the
+/// directory and of "a" are on so many pages, for the directory an even number, all full and nearly
+/// all dead; the other pages are free.
+pub fn with_long_logs(directory: u64, file: u64) -> Vec<u8> {
+    let mut volume = samples::formatted(16, 8);
+    done(&mut volume, &create(b"a"));
+    done(&mut volume, &create(b"e"));
+    done(&mut volume, &write(1, 0, &text(500)));
+    for number in 1..7 * file {
+        done(&mut volume, &set_size(1, 500 + number));
+    }
+    for _ in 0..(7 * directory - 2) / 2 {
+        done(&mut volume, &create(b"t"));
+        done(&mut volume, &unlink(b"t"));
+    }
+    let judged = judge(&volume).expect("accepted");
+    assert_eq!(judged.free_pages(), 13 - directory - file);
+    let pages = [0, 1].map(|inode| judged.logs[&inode].pages.len() as u64);
+    assert_eq!(pages, [directory, file]);
+    volume
 }
 
 /// How a run of the tool ended.

@@ -1,0 +1,308 @@
+//! Room for the calls of a command: how many free pages a volume keeps, logs cleaned where that
+//! makes room, and the way out of a volume on which nothing makes room any more.
+//!
+//! All of it is asked of the compiled calls, on copies of the volume: a log is as long as `clean`
+//! would write it.
+
+use crate::failure::{Failure, Outcome};
+use crate::store::{names_of, Plan, Store};
+use crate::text::{complain, shown_name};
+use calls::layout::{DIRECTORY, LIST_WORDS, PAGE_BYTES, PAGE_LIMIT, WORD_BYTES};
+use calls::list::groups;
+use refusal::{Answer, Refusal};
+use std::cmp::Reverse;
+use std::collections::BTreeSet;
+use std::iter;
+
+/// A volume has at most 256 inodes; the calls refuse those that it does not have.
+const INODES: u64 = 256;
+/// The most pages that are ever kept: 32 for the adds of 224 names, 19 for the writes of 128
+/// pieces.
+const MOST_KEPT: u64 = 32 + 19;
+
+/// A change that needs room.
+#[derive(Clone, Copy, Debug)]
+pub struct Change<'c> {
+    /// What it is about, as a refusal says it.
+    pub what: &'c str,
+    /// The file whose log it lengthens, if it does that.
+    pub file: Option<u64>,
+    /// What it does about the pages that are kept.
+    pub keeping: Keeping,
+}
+
+/// What a change does about the pages that a volume keeps free (see [`kept`]).
+#[derive(Clone, Copy, Debug, PartialEq, Eq)]
+pub enum Keeping {
+    /// It adds a name, for which more pages may have to be kept. It leaves them, or is refused.
+    Always,
+    /// If it takes pages it leaves them, or is refused.
+    IfTaking,
+    /// If it takes pages it leaves them, or where that cannot be, as many as cleaning can bring
+    /// about.
+    IfPossible,
+}
+
+/// A change that is planned: the logs that are cleaned first, and the lists of all calls.
+#[derive(Clone, Debug)]
+pub struct Planned {
+    plan: Plan,
+    cleaned: Vec<u64>,
+}
+
+impl Planned {
+    /// A plan that cleans these logs first.
+    fn cleaning(store: &Store, logs: &[u64]) -> Planned {
+        let (plan, cleaned) = (store.plan(), Vec::new());
+        let mut planned = Planned { plan, cleaned };
+        planned.clean(logs);
+        planned
+    }
+
+    /// Cleans these logs too, those of them for which there is room.
+    fn clean(&mut self, logs: &[u64]) {
+        for &inode in logs {
+            if !self.cleaned.contains(&inode) && clean(&mut self.plan, inode) {
+                self.cleaned.push(inode);
+            }
+        }
+    }
+
+    /// Stores the lists; `after` is told the number of each that is not of a clean (from 0) once it
+    /// has landed. Answers the logs that were cleaned, in words.
+    pub fn carry_out(
+        self,
+        store: &mut Store,
+        mut after: impl FnMut(usize),
+    ) -> Result<Vec<String>, Failure> {
+        let logs = self.cleaned.iter();
+        let logs: Vec<String> = logs.map(|&log| in_words(store.volume(), log)).collect();
+        store.carry_out(self.plan, |list| {
+            if let Some(number) = list.checked_sub(logs.len()) {
+                after(number);
+            }
+        })?;
+        Ok(logs)
+    }
+
+    /// Stores the lists and says which logs were cleaned.
+    pub fn finish(self, store: &mut Store) -> Outcome {
+        let logs = self.carry_out(store, |_| {})?;
+        say_cleaned(&logs);
+        Ok(())
+    }
+}
+
+/// Cleans a log in a plan; answers whether that changed anything.
+fn clean(plan: &mut Plan, inode: u64) -> bool {
+    let words = plan.call(|volume, list| calls::clean(volume, inode, list));
+    words.is_ok_and(|words| words > 0)
+}
+
+/// A log in words: the directory's, or that of a file, by its first name.
+fn in_words(volume: &[u8], inode: u64) -> String {
+    let names = names_of(volume).unwrap_or_default();
+    let mut names = names.iter();
+    match names.find(|name| calls::find(volume, name) == Ok(inode)) {
+        Some(name) => format!("the log of {}", shown_name(name)),
+        None => "the directory's log".into(),
+    }
+}
+
+/// Says which logs were cleaned to make room, if any were.
+pub fn say_cleaned(logs: &[String]) {
+    if let [first @ .., last] = logs {
+        let first = first.join(", ");
+        let and = if first.is_empty() { "" } else { " and " };
+        complain(&format!("room was made by cleaning {first}{and}{last}"));
+    }
+}
+
+/// Asks for a change on copies of the volume: as it is, and then with logs cleaned first, until it
+/// is granted.
+///
+/// Whatever else a call is refused for, cleaning does not help, and the refusal is answered at
+/// once. If nothing helps, the answer is why the change is not done on the volume as it is.
+pub fn planned(
+    store: &Store,
+    change: &Change,
+    ask: impl Fn(&mut Plan) -> Outcome,
+) -> Result<Planned, Failure> {
+    let tried = |mut planned: Planned, keeping: bool| -> Result<Planned, Failure> {
+        let before = free(&planned.plan);
+        ask(&mut planned.plan)?;
+        if keeping {
+            check_kept(store, change, before, &planned.plan)?;
+        }
+        Ok(planned)
+    };
+    let plain = || Planned::cleaning(store, &[]);
+    let failure = match tried(plain(), true) {
+        Err(failure) if failure.is_for_room() => failure,
+        ended => return ended,
+    };
+    let files = files_to_clean(store, change.file);
+    let mut granted = cleaned(store, &files).find_map(|start| tried(start, true).ok());
+    if granted.is_none() && change.keeping == Keeping::IfPossible {
+        let starts = iter::once(plain()).chain(cleaned(store, &files));
+        let done = starts.filter_map(|start| tried(start, false).ok());
+        // Of those that leave most the first, which cleans least.
+        granted = done.min_by_key(|planned| Reverse(free(&planned.plan)));
+    }
+    granted.ok_or(failure)
+}
+
+/// Plans that clean logs, in the order in which they are tried: the directory's; one file's; the
+/// directory's and more and more files'.
+fn cleaned<'f>(store: &Store, files: &'f [u64]) -> impl Iterator<Item = Planned> + 'f {
+    let directory = Planned::cleaning(store, &[DIRECTORY]);
+    let file = files.first();
+    let file = file.map(|&file| Planned::cleaning(store, &[file]));
+    let mut grown = directory.clone();
+    let more = files.iter().map(move |&file| {
+        // What the file's log gives back may be what the directory's needs.
+        grown.clean(&[file, DIRECTORY]);
+        grown.clone()
+    });
+    iter::once(directory).chain(file).chain(more)
+}
+
+/// The files whose logs may make room: the one whose log is lengthened, and those that give pages
+/// back.
+fn files_to_clean(store: &Store, file: Option<u64>) -> Vec<u64> {
+    let others = giving_back(store).filter(|&inode| Some(inode) != file);
+    file.into_iter().chain(others).collect()
+}
+
+/// The files whose logs give pages back, once the directory's is cleaned, those that give most
+/// first.
+fn giving_back(store: &Store) -> impl Iterator<Item = u64> {
+    let plan = Planned::cleaning(store, &[DIRECTORY]).plan;
+    let mut files = Vec::new();
+    for inode in DIRECTORY + 1..INODES {
+        let mut cleaned = plan.clone();
+        clean(&mut cleaned, inode);
+        let gain = free(&cleaned).saturating_sub(free(&plan));
+        if gain > 0 {
+            files.push((Reverse(gain), inode));
+        }
+    }
+    files.sort();
+    files.into_iter().map(|(_, inode)| inode)
+}
+
+/// The free pages that a plan leaves.
+fn free(plan: &Plan) -> u64 {
+    calls::free_count(plan.volume()).unwrap_or(0)
+}
+
+/// Checks that a change may leave what a plan leaves; `before` are the free pages before its calls,
+/// with the logs cleaned, since what these give back is not for the change alone.
+fn check_kept(store: &Store, change: &Change, before: u64, plan: &Plan) -> Outcome {
+    let refused = |refusal| store.refused_whole(refusal);
+    let free = calls::free_count(plan.volume()).map_err(refused)?;
+    let counts = change.keeping == Keeping::Always || free < before;
+    if !counts || free >= MOST_KEPT {
+        return Ok(());
+    }
+    let kept = kept(plan.volume()).map_err(refused)?;
+    if free >= kept {
+        return Ok(());
+    }
+    Err(Failure::Kept {
+        what: change.what.to_owned(),
+        free,
+        kept,
+        volume: store.shown(),
+    })
+}
+
+/// The free pages that a volume keeps: as many as the directory's log takes once it is cleaned, and
+/// as many as the longest of the files' logs, at least one. Where they are not free, the answer may
+/// be too low, but is more than are free.
+///
+/// The two are added, since a cleaned file's log may be longer than the old one. With one page more
+/// than the directory's log takes, names can be removed and renamed for ever: the log can always be
+/// cleaned.
+///
+/// ```
+/// let mut volume = vec![0; 16 * 512];
+/// calls::format(&mut volume, 16, 8)?;
+/// assert_eq!(office::room::kept(&volume), Ok(1));
+///
+/// let mut list = vec![0; 4_096];
+/// let count = calls::create(&volume, b"A1", &mut list)?;
+/// calls::carry_out(&mut volume, &list, count)?;
+/// assert_eq!(office::room::kept(&volume), Ok(2));
+/// # Ok::<(), calls::Refusal>(())
+/// ```
+pub fn kept(volume: &[u8]) -> Answer {
+    let mut longest = 1;
+    for inode in DIRECTORY + 1..INODES {
+        longest = longest.max(cleaned_pages(volume, inode)?);
+    }
+    Ok(cleaned_pages(volume, DIRECTORY)? + longest)
+}
+
+/// The pages that a log takes once it is cleaned; where they are not free, one more than are.
+fn cleaned_pages(volume: &[u8], inode: u64) -> Answer {
+    let mut list = vec![0; LIST_WORDS];
+    let words = match calls::clean(volume, inode, &mut list) {
+        Err(Refusal::NotThere) => 0,
+        Err(Refusal::NoSpace) => return Ok(calls::free_count(volume)? + 1),
+        words => words?,
+    };
+    // The first group has the new log, and in page 0 the journal's pairs.
+    let groups = groups(&list[..words as usize]);
+    let stores = groups.first().into_iter().flatten();
+    let pages: BTreeSet<u64> = stores
+        .map(|(index, _)| index * WORD_BYTES / PAGE_BYTES)
+        .filter(|&page| page != 0)
+        .collect();
+    Ok(pages.len() as u64)
+}
+
+/// Whether nothing makes room any more: names stand, and no name can be removed and no log cleaned
+/// for want of a page.
+///
+/// One name speaks for all, since the entry that removes it is as long as any.
+pub fn is_stuck(volume: &[u8]) -> bool {
+    if calls::free_count(volume) != Ok(0) {
+        return false;
+    }
+    let mut list = vec![0; LIST_WORDS];
+    let names = names_of(volume).unwrap_or_default();
+    let unlinked = |name: &Vec<u8>| calls::unlink(volume, name, &mut list);
+    names.first().map(unlinked) == Some(Err(Refusal::NoSpace))
+        && (DIRECTORY..INODES).all(|inode| {
+            let cleaned = calls::clean(volume, inode, &mut list);
+            matches!(cleaned, Ok(0) | Err(Refusal::NoSpace | Refusal::NotThere))
+        })
+}
+
+/// What to do about a volume on which nothing makes room; `shown` is its path as shown.
+pub fn way_out(volume: &[u8], shown: &str) -> String {
+    let (pages, inodes) = sizes_for_all(volume);
+    format!(
+        "no page is left with which a name could be removed or a log cleaned, but every file \
+         can be read: 'office get {shown} --all FOLDER' copies them all; \
+         'office format NEW --pages {pages} --inodes {inodes}' makes a new volume, and \
+         'office put NEW FOLDER' puts them there"
+    )
+}
+
+/// The pages and inodes of a volume into which the files of all names can be put, if there is one.
+fn sizes_for_all(volume: &[u8]) -> (u64, u64) {
+    let names = names_of(volume).unwrap_or_default();
+    let size = |name: &Vec<u8>| {
+        let inode = calls::find(volume, name)?;
+        calls::size(volume, inode)
+    };
+    let sizes = names.iter().map(|name| size(name).unwrap_or(0));
+    // A put takes at most three log pages for a file, and less than one of the directory's.
+    let files: u64 = sizes.map(|size| size.div_ceil(PAGE_BYTES) + 4).sum();
+    let inodes = (names.len() as u64 + 2).next_multiple_of(8);
+    let twice = 2 * volume.len() as u64 / PAGE_BYTES;
+    let pages = (inodes / 8 + files + 8).next_multiple_of(16);
+    (pages.max(twice).min(PAGE_LIMIT), inodes)
+}
