@@ -188,12 +188,12 @@ module _ (u : Mem) (P : ℕ) where
   allChanges f [] = []
   allChanges f (a ∷ more) = ownChanges u P f a ++ allChanges (pagesLeft u P f a) more
 
--- Room, of a call that needs some of the free pages. 12: "the free pages are fewer than the data and log pages together"; with one data
--- page or none this is document 01's "for the data no run long enough, or no page left for the log where it needs one (clean: fewer free than
--- needed)". Then 15, of a call that keeps the last free page (document 02, order 4): "The rule concerns only calls that take at least one
--- page", "checked directly after 12".
+-- Room, of a call that needs some of the free pages that are available. 12: "the free pages are fewer than the data and log pages
+-- together"; with one data page or none this is document 01's "for the data no run long enough, or no page left for the log where it needs
+-- one (clean: fewer free than needed)". Then 15, of a call that keeps the last free page (document 02, order 4): "The rule concerns only
+-- calls that take at least one page", "checked directly after 12".
 unfoldable pub roomChecks : Bool → ℕ → ℕ → Checks
-roomChecks keeps free needed = (ltb free needed, noSpace) ∷ (keeps && not (eqb needed 0) && eqb needed free, lastPage) ∷ []
+roomChecks keeps available needed = (ltb available needed, noSpace) ∷ (keeps && not (eqb needed 0) && eqb needed available, lastPage) ∷ []
 
 -- What a call does: the refusals that always apply; whether there is nothing to change; the refusals that apply only where something
 -- changes; whether it keeps the last free page ("Create, link, write and set size shall not take the last free page"; "Unlink, rename and

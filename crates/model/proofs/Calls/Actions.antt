@@ -1,5 +1,5 @@
 -- An action with one append: what it checks, stores and commits is that of the append, and the action's own.
-use Rattle.model.proofs.Prelude.{_≡_, refl, fun-ext, ℕ, _-_, _≤_, Bool, true, false, List, [], _∷_, _++_, append-nil, Option, none, some, arith, add-zero, zero-add, length, getD, ltb-false}
+use Rattle.model.proofs.Prelude.{_≡_, refl, fun-ext, ℕ, _-_, Bool, true, false, List, [], _∷_, _++_, append-nil, Option, none, some, arith, add-zero, zero-add, length, getD, ltb-false}
 use Rattle.model.specs.Words.{Mem}
 use Rattle.model.specs.Layout.{headWord, tailWord}
 use Rattle.model.specs.Lists.{valuesFrom, lowestFew, indexOf}
@@ -13,7 +13,8 @@ use Rattle.model.proofs.Frame.Dead.{low, frame}
 use Rattle.model.proofs.Crash.Stores.{first-none}
 use Rattle.model.proofs.Crash.Commit.{Ready, Owed, Sound, commit-safe}
 use Rattle.model.proofs.Crash.History.{Passed}
-use Rattle.model.proofs.Calls.Grown.{leaves, DeadIn}
+use Rattle.model.proofs.Calls.Room.{HasRoom}
+use Rattle.model.proofs.Calls.Grown.{freeBehind, DeadIn}
 use Rattle.model.proofs.Calls.Stored.{changes-on}
 
 pub both-none : (s : Stores) → both s noWords ≡ s
@@ -34,7 +35,7 @@ module _ (u : Mem) (P : ℕ) (f : ℕ → Bool) (a : Append) where
   one-changes = append-nil (ownChanges u P f a)
 
 -- its pages are there where the checks for room do not hold
-pub room-passed : (u : Mem) (P N : ℕ) (b : Bool) (a : Append) → Passed (spaceChecks u P N b (a ∷ [])) → pagesNeeded u P (free u P N) a ≤ freeCount u P N
+pub room-passed : (u : Mem) (P N : ℕ) (b : Bool) (a : Append) → Passed (spaceChecks u P N b (a ∷ [])) → HasRoom u P N a
 unfolding spaceChecks roomChecks
 room-passed u P N b a p =
     let l = ltb-false (freeCount u P N) (allNeeded u P (free u P N) (a ∷ [])) (p .0) in rw (one-needed u P (free u P N) a) at l
@@ -91,15 +92,16 @@ module _ (P N : ℕ) (m : Mem) (r : Ready P N m) where
 
   -- an append to a log that goes on, with further stores t and further changes cs
   module _ (a : Append) (on : a .anew ≡ false) (cs : List Change) (M : FileMap) where
+    -- the pages that the action leaves free
     abbrev F : ℕ
     F = freeCount m P N - allNeeded m P (free m P N) (a ∷ [])
 
-    pub append-sound : (t : Stores) → Owed P N (leaves m P N a) (DeadIn P N) m (both (prepared m P (free m P N) a) t) (newTail m P (free m P N) a ∷ cs) M
+    pub append-sound : (t : Stores) → Owed P N (freeBehind m P N a) (DeadIn P N) m (both (prepared m P (free m P N) a) t) (newTail m P (free m P N) a ∷ cs) M
         → Sound P N F m (commit m (both (allPrepared m P (free m P N) (a ∷ [])) t) (allChanges m P (free m P N) (a ∷ []) ++ cs)) M
     append-sound t o =
         rw (one-needed m P (free m P N) a, one-prepared m P (free m P N) a, one-changes m P (free m P N) a, changes-on m P (free m P N) a on)
-        (owed-sound (leaves m P N a) _ _ cs M o)
+        (owed-sound (freeBehind m P N a) _ _ cs M o)
 
-    pub plain-sound : Owed P N (leaves m P N a) (DeadIn P N) m (prepared m P (free m P N) a) (newTail m P (free m P N) a ∷ cs) M
+    pub plain-sound : Owed P N (freeBehind m P N a) (DeadIn P N) m (prepared m P (free m P N) a) (newTail m P (free m P N) a ∷ cs) M
         → Sound P N F m (commit m (both (allPrepared m P (free m P N) (a ∷ [])) noWords) (allChanges m P (free m P N) (a ∷ []) ++ cs)) M
     plain-sound o = append-sound noWords (rw (both-none (prepared m P (free m P N) a)) o)

@@ -8,9 +8,9 @@ use Rattle.model.specs.Journal.{targetOk}
 use Rattle.model.specs.Entry.{fileEntryOk, sizeWords}
 use Rattle.model.specs.State.{fileOf, namesOf}
 use Rattle.model.specs.Log.{entries}
-use Rattle.model.specs.Accept.{isValid, isFile, free, freeCount, mappedTo, logOk, endOk, viewOk}
+use Rattle.model.specs.Accept.{isValid, isFile, free, mappedTo, logOk, endOk, viewOk}
 use Rattle.model.specs.FileMap.{FileMap, mapOf, mapAfter, write, setSize}
-use Rattle.model.specs.Calls.{Change, Append, stretchEntries, targets, dataPages, appended, freshPages, freshLog, pagesNeeded, prepared, newTail, noFile, pagesCovered, writtenByte, writeAppend, cutsPage, keptByte, sizeAppend, actionChecks, actionGroups, writeAction, sizeAction}
+use Rattle.model.specs.Calls.{Change, Append, stretchEntries, targets, dataPages, appended, freshPages, freshLog, prepared, newTail, noFile, pagesCovered, writtenByte, writeAppend, cutsPage, keptByte, sizeAppend, actionChecks, actionGroups, writeAction, sizeAction}
 use Rattle.model.specs.Claim.{Bytes}
 use Rattle.model.proofs.Tests.{by-eq, by-lt, ands, or-false}
 use Rattle.model.proofs.Words.{leFrom-lt}
@@ -28,12 +28,12 @@ use Rattle.model.proofs.State.NameEntries.{names-in}
 use Rattle.model.proofs.State.Maps.{SameBytes, no-bytes, same-size, write-map, size-map}
 use Rattle.model.proofs.Crash.Commit.{Ready, ready-view, committed, Owed, nothing-safe}
 use Rattle.model.proofs.Crash.History.{Duty}
-use Rattle.model.proofs.Calls.Room.{Room, free-bounds, fresh-at, room-found}
+use Rattle.model.proofs.Calls.Room.{HasRoom, Room, free-bounds, fresh-at, room-found}
 use Rattle.model.proofs.Calls.Still.{still-prepared}
 use Rattle.model.proofs.Calls.Changed.{changed-fine}
 use Rattle.model.proofs.Calls.Stored.{Stored, valid-same, agree-after, after-by, Appends}
 use Rattle.model.proofs.Calls.Small.{SmallEntries, cons-small, size-small, stretches-small}
-use Rattle.model.proofs.Calls.Grown.{few-pages, leaves, DeadIn, grown-file, grown-changed, grown-free, grown-filled, grown-small, grown-tail}
+use Rattle.model.proofs.Calls.Grown.{few-pages, freeBehind, DeadIn, grown-file, grown-changed, grown-free, grown-filled, grown-small, grown-tail}
 use Rattle.model.proofs.Calls.Names.{target-here, target-other, target-none, target-ok}
 use Rattle.model.proofs.Calls.Actions.{room-passed, plain-sound}
 
@@ -41,7 +41,7 @@ use Rattle.model.proofs.Calls.Actions.{room-passed, plain-sound}
 pub record Filing (P N : ℕ) (m : Mem) (a : Append) : Type 0 where
   pub ready : Ready P N m
   pub goes-on : a .anew ≡ false
-  pub room : pagesNeeded m P (free m P N) a ≤ freeCount m P N
+  pub room : HasRoom m P N a
   pub below : a .log < N
   pub file : isFile m (a .log) ≡ true
   pub some-es : 0 < length (appended m P (free m P N) a)
@@ -133,7 +133,7 @@ module _ {P N : ℕ} {m : Mem} {a : Append} (c : Filing P N m a) where
       → ((p : ℕ) → (p ≡ 0 → ⊥) → mappedTo (fileAfter m P N a (dataPages m P (free m P N) a)) p
       ≤ mappedTo (fileOf m P N k) p + count p (dataPages m P (free m P N) a))
       → endOk now (fileAfter m P N a (dataPages m P (free m P N) a)) ≡ true → mapOf now P N ≡ M
-      → Owed P N (leaves m P N a) (DeadIn P N) m (prepared m P (free m P N) a) (tail ∷ []) M
+      → Owed P N (freeBehind m P N a) (DeadIn P N) m (prepared m P (free m P N) a) (tail ∷ []) M
   unfolding distinct has
   filing-owed M entries-ok maps ends e =
       let g = sizes-whole P N (ready .sizes) .1 in
@@ -196,7 +196,7 @@ module _ (P N : ℕ) (m : Mem) (r : Ready P N m) where
 
   -- Write.
   module _ (k o : ℕ) (bs : List ℕ) (small : Bytes bs) (below : k < N) (file : isFile m k ≡ true) (short : length bs ≤ 4096)
-      (in-file : o + length bs ≤ 65536) (some-bytes : length bs ≡ 0 → ⊥) (room : pagesNeeded m P (free m P N) (writeAppend m P N k o bs) ≤ freeCount m P N) where
+      (in-file : o + length bs ≤ 65536) (some-bytes : length bs ≡ 0 → ⊥) (room : HasRoom m P N (writeAppend m P N k o bs)) where
     abbrev w : Append
     w = writeAppend m P N k o bs
 
@@ -222,7 +222,7 @@ module _ (P N : ℕ) (m : Mem) (r : Ready P N m) where
               (pagesCovered o (o + length bs)) (o / 512) (run .2);
         }
 
-    write-owed : Owed P N (leaves m P N w) (DeadIn P N) m (prepared m P (free m P N) w) (newTail m P (free m P N) w ∷ []) (mapAfter N (write k o bs) (mapOf m P N))
+    write-owed : Owed P N (freeBehind m P N w) (DeadIn P N) m (prepared m P (free m P N) w) (newTail m P (free m P N) w ∷ []) (mapAfter N (write k o bs) (mapOf m P N))
     unfolding writeAppend appended
     write-owed =
         let some : 0 < length bs = omega arith in
@@ -245,7 +245,7 @@ module _ (P N : ℕ) (m : Mem) (r : Ready P N m) where
       (room-passed m P N true _ (rw (ne-eqb _ _ e) at (p .1 .1 .1))))))
 
   -- Set size.
-  module _ (k s : ℕ) (below : k < N) (file : isFile m k ≡ true) (in-file : s ≤ 65536) (room : pagesNeeded m P (free m P N) (sizeAppend m P N k s) ≤ freeCount m P N) where
+  module _ (k s : ℕ) (below : k < N) (file : isFile m k ≡ true) (in-file : s ≤ 65536) (room : HasRoom m P N (sizeAppend m P N k s)) where
     abbrev z : Append
     z = sizeAppend m P N k s
 
@@ -269,7 +269,7 @@ module _ (P N : ℕ) (m : Mem) (r : Ready P N m) where
               (bit (cutsPage m P N k s)) (s / 512) (resize-run m P N k s in-file (small-was k below file)));
         }
 
-    size-owed : Owed P N (leaves m P N z) (DeadIn P N) m (prepared m P (free m P N) z) (newTail m P (free m P N) z ∷ []) (mapAfter N (setSize k s) (mapOf m P N))
+    size-owed : Owed P N (freeBehind m P N z) (DeadIn P N) m (prepared m P (free m P N) z) (newTail m P (free m P N) z ∷ []) (mapAfter N (setSize k s) (mapOf m P N))
     unfolding sizeAppend appended
     size-owed =
         let before = file-before size-call in

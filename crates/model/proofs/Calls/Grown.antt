@@ -29,8 +29,8 @@ unfolding sizesOk
 few-pages P N s = (leb-true P 4096 (search ands), leb-true N 256 (search ands), leb-true (N / 8 + 4) P (search ands))
 
 -- the pages that an append leaves free
-abbrev pub leaves : Mem → ℕ → ℕ → Append → ℕ
-leaves m P N a = freeCount m P N - pagesNeeded m P (free m P N) a
+abbrev pub freeBehind : Mem → ℕ → ℕ → Append → ℕ
+freeBehind m P N a = freeCount m P N - pagesNeeded m P (free m P N) a
 
 -- dead words of views of P pages and N inodes
 abbrev pub DeadIn : ℕ → ℕ → Mem → ℕ → Type 0
@@ -78,7 +78,7 @@ module _ {m : Mem} {P N : ℕ} {a : Append} {s : Stores} {cs : List Change} (c :
       }
 
   -- and how many pages are free then
-  pub grown-free : Changed m now P N (a .log) (freshLog m P f a) (λ p. count p ds) → leaves m P N a ≤ freeCount now P N
+  pub grown-free : Changed m now P N (a .log) (freshLog m P f a) (λ p. count p ds) → freeBehind m P N a ≤ freeCount now P N
   unfolding pagesNeeded
   grown-free h = omega (arith, changed-free ds h, room .for-log .number, room .for-data .number)
 

@@ -4,10 +4,10 @@ use Rattle.model.specs.Words.{Mem}
 use Rattle.model.specs.Layout.{validWord, headWord, tailWord, root}
 use Rattle.model.specs.Entry.{nameOk, addWords, removeWords}
 use Rattle.model.specs.State.{Names, namesOf, withName, without, inodeOf}
-use Rattle.model.specs.Accept.{isValid, isFile, free, freeCount, viewOk}
+use Rattle.model.specs.Accept.{isValid, isFile, free, viewOk}
 use Rattle.model.specs.FileMap.{mapOf, mapAfter, create, link, unlink, rename}
 use Rattle.model.specs.Stores.{Stores, oneWord, both}
-use Rattle.model.specs.Calls.{Change, entriesOnly, targets, pagesNeeded, prepared, newTail, isFull, invalidInode, release, sameInode, actionChecks, actionGroups, createAction, linkAction, unlinkAction, renameAction}
+use Rattle.model.specs.Calls.{Change, entriesOnly, targets, prepared, newTail, isFull, invalidInode, release, sameInode, actionChecks, actionGroups, createAction, linkAction, unlinkAction, renameAction}
 use Rattle.model.specs.Claim.{Bytes}
 use Rattle.model.proofs.Tests.{by-bool, by-eq, no, clash, ands, some-is}
 use Rattle.model.proofs.Log.Decode.{name-short}
@@ -20,13 +20,13 @@ use Rattle.model.proofs.State.Maps.{SameBytes, rename-same, create-inod
 use Rattle.model.proofs.Crash.Stores.{only-both, only-word, over-some, one-here, one-other}
 use Rattle.model.proofs.Crash.Commit.{Ready, ready-view, Owed, nothing-safe}
 use Rattle.model.proofs.Crash.History.{Duty}
-use Rattle.model.proofs.Calls.Room.{room-found}
+use Rattle.model.proofs.Calls.Room.{HasRoom, room-found}
 use Rattle.model.proofs.Calls.Actions.{room-passed, append-sound, plain-sound}
 use Rattle.model.proofs.Calls.Still.{still-inode, still-prepared}
 use Rattle.model.proofs.Calls.Changed.{After, gone, made, new-file}
 use Rattle.model.proofs.Calls.Stored.{prepared-low}
 use Rattle.model.proofs.Calls.Small.{Inside, SmallEntries, no-small, cons-small, add-small, remove-small}
-use Rattle.model.proofs.Calls.Grown.{few-pages, leaves, DeadIn}
+use Rattle.model.proofs.Calls.Grown.{few-pages, freeBehind, DeadIn}
 use Rattle.model.proofs.Calls.Names.{target-here, target-other, target-none, Valid, no-change, one-change, Naming, appends, now, word-now, names-now, valid-now, valid-set, after-now, bytes-now, naming-owed, names-fine-before}
 
 module _ (P N : ℕ) (m : Mem) (r : Ready P N m) where
@@ -43,7 +43,7 @@ module _ (P N : ℕ) (m : Mem) (r : Ready P N m) where
   in-names = names-in m P N root refl (log-ok m P N ok 0 some-inode (root-valid m P N ok some-inode))
 
   -- a call that appends to the directory and stores nothing else first
-  plain : (es : List (List ℕ)) (cs : List Change) → pagesNeeded m P (free m P N) (entriesOnly false root es) ≤ freeCount m P N → 0 < length es → SmallEntries es → Valid N cs
+  plain : (es : List (List ℕ)) (cs : List Change) → HasRoom m P N (entriesOnly false root es) → 0 < length es → SmallEntries es → Valid N cs
       → Naming P N m es (prepared m P (free m P N) (entriesOnly false root es)) cs
   unfolding entriesOnly
   plain es cs room some-es small valids = record {
@@ -58,7 +58,7 @@ module _ (P N : ℕ) (m : Mem) (r : Ready P N m) where
   }
 
   -- Link.
-  module _ (a b : List ℕ) (small : Bytes b) (room : pagesNeeded m P (free m P N) (entriesOnly false root (addWords (inodeOf names a) b ∷ [])) ≤ freeCount m P N) (fine : nameOk b ≡ true)
+  module _ (a b : List ℕ) (small : Bytes b) (room : HasRoom m P N (entriesOnly false root (addWords (inodeOf names a) b ∷ []))) (fine : nameOk b ≡ true)
       (there : inodeOf names a ≡ 0 → ⊥) (absent : inodeOf names b ≡ 0) (short : length names < 224) where
     inode : (1 ≤ inodeOf names a) × (inodeOf names a < N)
     inode = leads N names in-names a there
@@ -74,7 +74,7 @@ module _ (P N : ℕ) (m : Mem) (r : Ready P N m) where
     link-names-now : namesOf (now link-call) P N root ≡ withName b (inodeOf names a) names
     link-names-now = names-now link-call ∙ names-added b fine small (inodeOf names a) names
 
-    link-owed : Owed P N (leaves m P N (entriesOnly false root (addWords (inodeOf names a) b ∷ []))) (DeadIn P N) m (prepared m P (free m P N) (entriesOnly false root (addWords (inodeOf names a) b ∷ []))) (newTail m P (free m P N) (entriesOnly false root (addWords (inodeOf names a) b ∷ [])) ∷ [])
+    link-owed : Owed P N (freeBehind m P N (entriesOnly false root (addWords (inodeOf names a) b ∷ []))) (DeadIn P N) m (prepared m P (free m P N) (entriesOnly false root (addWords (inodeOf names a) b ∷ []))) (newTail m P (free m P N) (entriesOnly false root (addWords (inodeOf names a) b ∷ [])) ∷ [])
         (mapAfter N (link a b) (mapOf m P N))
     link-owed =
         naming-owed link-call _ (added-ok b fine small N (inodeOf names a) (inode .0) (inode .1))
@@ -124,7 +124,7 @@ module _ (P N : ℕ) (m : Mem) (r : Ready P N m) where
         (λ t. bytes-now c k l (rw (valid-now c k l (stays-now k t)) at f) (stays-now k t))
 
   -- Unlink.
-  module _ (n : List ℕ) (small : Bytes n) (room : pagesNeeded m P (free m P N) (entriesOnly false root (removeWords n ∷ [])) ≤ freeCount m P N) (fine : nameOk n ≡ true) where
+  module _ (n : List ℕ) (small : Bytes n) (room : HasRoom m P N (entriesOnly false root (removeWords n ∷ []))) (fine : nameOk n ≡ true) where
     unlink-call : Naming P N m (removeWords n ∷ []) (prepared m P (free m P N) (entriesOnly false root (removeWords n ∷ []))) (release m P N root n)
     unlink-call =
         plain (removeWords n ∷ []) (release m P N root n) room (omega arith) (cons-small _ [] (remove-small n (name-short n fine) small) no-small) (release-one n)
@@ -132,7 +132,7 @@ module _ (P N : ℕ) (m : Mem) (r : Ready P N m) where
     unlink-names-now : namesOf (now unlink-call) P N root ≡ without n names
     unlink-names-now = names-now unlink-call ∙ names-removed n fine small names
 
-    unlink-owed : Owed P N (leaves m P N (entriesOnly false root (removeWords n ∷ []))) (DeadIn P N) m (prepared m P (free m P N) (entriesOnly false root (removeWords n ∷ []))) (newTail m P (free m P N) (entriesOnly false root (removeWords n ∷ [])) ∷ release m P N root n)
+    unlink-owed : Owed P N (freeBehind m P N (entriesOnly false root (removeWords n ∷ []))) (DeadIn P N) m (prepared m P (free m P N) (entriesOnly false root (removeWords n ∷ []))) (newTail m P (free m P N) (entriesOnly false root (removeWords n ∷ [])) ∷ release m P N root n)
         (mapAfter N (unlink n) (mapOf m P N))
     unlink-owed =
         naming-owed unlink-call _ (removed-ok n fine small N) (released-after n unlink-call)
@@ -145,7 +145,7 @@ module _ (P N : ℕ) (m : Mem) (r : Ready P N m) where
       plain-sound P N m r _ refl (release m P N root n) _ (unlink-owed n bytes (room-passed m P N false _ (p .1 .1)) (not-false _ (p .0)))
 
   -- Rename.
-  module _ (a b : List ℕ) (small-a : Bytes a) (small-b : Bytes b) (room : pagesNeeded m P (free m P N) (entriesOnly false root (removeWords a ∷ addWords (inodeOf names a) b ∷ [])) ≤ freeCount m P N)
+  module _ (a b : List ℕ) (small-a : Bytes a) (small-b : Bytes b) (room : HasRoom m P N (entriesOnly false root (removeWords a ∷ addWords (inodeOf names a) b ∷ [])))
       (fine-a : nameOk a ≡ true) (fine-b : nameOk b ≡ true) (there : inodeOf names a ≡ 0 → ⊥) (apart : inodeOf names a ≡ inodeOf names b → ⊥) where
     moved : (1 ≤ inodeOf names a) × (inodeOf names a < N)
     moved = leads N names in-names a there
@@ -160,7 +160,7 @@ module _ (P N : ℕ) (m : Mem) (r : Ready P N m) where
     rename-names-now : namesOf (now rename-call) P N root ≡ withName b (inodeOf names a) (without a names)
     rename-names-now = names-now rename-call ∙ names-moved a b fine-a small-a fine-b small-b (inodeOf names a) names
 
-    rename-owed : Owed P N (leaves m P N (entriesOnly false root (removeWords a ∷ addWords (inodeOf names a) b ∷ []))) (DeadIn P N) m (prepared m P (free m P N) (entriesOnly false root (removeWords a ∷ addWords (inodeOf names a) b ∷ []))) (newTail m P (free m P N) (entriesOnly false root (removeWords a ∷ addWords (inodeOf names a) b ∷ [])) ∷ release m P N root b)
+    rename-owed : Owed P N (freeBehind m P N (entriesOnly false root (removeWords a ∷ addWords (inodeOf names a) b ∷ []))) (DeadIn P N) m (prepared m P (free m P N) (entriesOnly false root (removeWords a ∷ addWords (inodeOf names a) b ∷ []))) (newTail m P (free m P N) (entriesOnly false root (removeWords a ∷ addWords (inodeOf names a) b ∷ [])) ∷ release m P N root b)
         (mapAfter N (rename a b) (mapOf m P N))
     rename-owed =
         naming-owed rename-call _ (moved-ok a b fine-a small-a fine-b small-b (inodeOf names a) N (moved .0) (moved .1)) (released-after b rename-call)
@@ -178,7 +178,7 @@ module _ (P N : ℕ) (m : Mem) (r : Ready P N m) where
       (eqb-false _ _ (not-true _ (not-false _ (p .1 .0)))) e)))
 
   -- Create.
-  module _ (n : List ℕ) (small : Bytes n) (i : ℕ) (found : invalidInode m P N ≡ some i) (room : pagesNeeded m P (free m P N) (entriesOnly false root (addWords i n ∷ [])) ≤ freeCount m P N)
+  module _ (n : List ℕ) (small : Bytes n) (i : ℕ) (found : invalidInode m P N ≡ some i) (room : HasRoom m P N (entriesOnly false root (addWords i n ∷ [])))
       (fine : nameOk n ≡ true) (absent : inodeOf names n ≡ 0) (short : length names < 224) where
     free-inode : (isValid m i ≡ false) × (1 ≤ i) × (i < N)
     free-inode = create-inode m P N i found
@@ -227,7 +227,7 @@ module _ (P N : ℕ) (m : Mem) (r : Ready P N m) where
     create-names-now : namesOf (now create-call) P N root ≡ withName n i names
     create-names-now = names-now create-call ∙ names-added n fine small i names
 
-    create-owed : Owed P N (leaves m P N (entriesOnly false root (addWords i n ∷ []))) (DeadIn P N) m (both (prepared m P (free m P N) (entriesOnly false root (addWords i n ∷ []))) emptied)
+    create-owed : Owed P N (freeBehind m P N (entriesOnly false root (addWords i n ∷ []))) (DeadIn P N) m (both (prepared m P (free m P N) (entriesOnly false root (addWords i n ∷ []))) emptied)
         (newTail m P (free m P N) (entriesOnly false root (addWords i n ∷ [])) ∷ (validWord i, 1) ∷ []) (mapAfter N (create n) (mapOf m P N))
     create-owed =
         naming-owed create-call _ (added-ok n fine small N i (free-inode .1) (free-inode .2))

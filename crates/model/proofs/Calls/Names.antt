@@ -7,10 +7,10 @@ use Rattle.model.specs.Layout.{validWord, headWord, tailWord, root}
 use Rattle.model.specs.Journal.{targetOk}
 use Rattle.model.specs.Entry.{nameEntryOk}
 use Rattle.model.specs.State.{nameStep, namesOf}
-use Rattle.model.specs.Accept.{isValid, isFile, free, freeCount, namesOk, viewOk}
+use Rattle.model.specs.Accept.{isValid, isFile, free, namesOk, viewOk}
 use Rattle.model.specs.FileMap.{FileMap, mapOf}
 use Rattle.model.specs.Stores.{Stores, over}
-use Rattle.model.specs.Calls.{Change, Append, entriesOnly, targets, pagesNeeded, prepared, newTail}
+use Rattle.model.specs.Calls.{Change, Append, entriesOnly, targets, prepared, newTail}
 use Rattle.model.proofs.Log.Decode.{decode}
 use Rattle.model.proofs.Frame.Placed.{sizes-whole}
 use Rattle.model.proofs.Frame.Inode.{same-bytes}
@@ -19,13 +19,13 @@ use Rattle.model.proofs.State.Maps.{SameBytes}
 use Rattle.model.proofs.Crash.Stores.{Only, Each, over-some, one-here, one-other}
 use Rattle.model.proofs.Crash.Journal.{targetsOf, Values}
 use Rattle.model.proofs.Crash.Commit.{Ready, ready-view, committed, Owed}
-use Rattle.model.proofs.Calls.Room.{room-found}
+use Rattle.model.proofs.Calls.Room.{HasRoom, room-found}
 use Rattle.model.proofs.Calls.Actions.{only-entries}
 use Rattle.model.proofs.Calls.Still.{Still}
 use Rattle.model.proofs.Calls.Changed.{After, changed-fine}
 use Rattle.model.proofs.Calls.Stored.{Stored, not-committed, valid-same, agree-after, after-by, Appends}
 use Rattle.model.proofs.Calls.Small.{Inside, SmallEntries}
-use Rattle.model.proofs.Calls.Grown.{DeadIn, leaves, grown-names, grown-changed, grown-free, grown-small, grown-tail}
+use Rattle.model.proofs.Calls.Grown.{freeBehind, DeadIn, grown-names, grown-changed, grown-free, grown-small, grown-tail}
 
 -- a committed word is what the first change of it says; a change leaves the other words to the changes after it
 pub target-here : (c : Change) (cs : List Change) → targets (c ∷ cs) (c .0) ≡ some (c .1)
@@ -64,7 +64,7 @@ valid-values (one-change i x a b c) = (omega arith, tt)
 -- A call that appends the entries es to the directory's log, stores s, and commits the tail and changes of valid words.
 pub record Naming (P N : ℕ) (m : Mem) (es : List (List ℕ)) (s : Stores) (cs : List Change) : Type 0 where
   pub ready : Ready P N m
-  pub room : pagesNeeded m P (free m P N) (entriesOnly false root es) ≤ freeCount m P N
+  pub room : HasRoom m P N (entriesOnly false root es)
   pub some-es : 0 < length es
   pub small : SmallEntries es
   pub still : Only (Still m P N) s
@@ -165,7 +165,7 @@ module _ {P N : ℕ} {m : Mem} {es : List (List ℕ)} {s : Stores} {cs : List Ch
 
   -- what is owed, from the entries, the other inodes, the names and the map
   pub naming-owed : (M : FileMap) → all (nameEntryOk N) (map decode es) ≡ true → ((i : ℕ) → i < N → (i ≡ 0 → ⊥) → After m now P N i)
-      → namesOk now N (namesOf now P N root) ≡ true → mapOf now P N ≡ M → Owed P N (leaves m P N a) (DeadIn P N) m s changes M
+      → namesOk now N (namesOf now P N root) ≡ true → mapOf now P N ≡ M → Owed P N (freeBehind m P N a) (DeadIn P N) m s changes M
   unfolding entriesOnly
   naming-owed M entries-ok others names e =
       let changed = grown-changed appends (rw (only-entries m P (free m P N) false root es) entries-ok) (λ n. absurd (n refl)) (λ n. absurd (n refl)) others names in

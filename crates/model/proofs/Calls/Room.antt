@@ -10,6 +10,10 @@ use Rattle.model.proofs.Lists.{few-holds, few-distinct, has-getD, index
 use Rattle.model.proofs.Frame.Placed.{in-bounds, zero-outside}
 use Rattle.model.proofs.Calls.DataPages.{pages-hold, pages-apart, enough-data, enough-log}
 
+-- no fewer pages are free than an append needs
+abbrev pub HasRoom : Mem → ℕ → ℕ → Append → Type 0
+HasRoom u P N a = pagesNeeded u P (free u P N) a ≤ freeCount u P N
+
 -- n free pages, each once
 pub record Fresh (u : Mem) (P N : ℕ) (ls : List ℕ) (n : ℕ) : Type 0 where
   pub number : length ls ≡ n
@@ -44,7 +48,7 @@ module _ (u : Mem) (P N : ℕ) where
   fresh-at ls n f i l = f .unused (getD ls i 0) (has-getD ls i (omega (arith, f .number)))
 
   -- the pages of an append that is not refused with 12
-  pub room-found : (a : Append) → pagesNeeded u P (free u P N) a ≤ freeCount u P N
+  pub room-found : (a : Append) → HasRoom u P N a
       → Room u P N (dataPages u P (free u P N) a) (a .count) (freshLog u P (free u P N) a) (freshPages u P (free u P N) a)
   unfolding freshLog dataPages besides freeCount
   room-found a e =
