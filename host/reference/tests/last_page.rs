@@ -182,20 +182,6 @@ fn directory_full_before_the_last_page() {
     assert_eq!(answer(&volume, &create(b"new")), Ok(44), "it takes no page");
 }
 
-/// A changing call's name.
-fn name_of(call: &Call) -> &'static str {
-    match call {
-        Call::Create { .. } => "create",
-        Call::Link { .. } => "link",
-        Call::Unlink { .. } => "unlink",
-        Call::Rename { .. } => "rename",
-        Call::Write { .. } => "write",
-        Call::SetSize { .. } => "set size",
-        Call::Clean { .. } => "clean",
-        Call::Recover => "recover",
-    }
-}
-
 /// How many of the free pages a call takes: those that its list stores into.
 fn taken(volume: &[u8], list: &[u64]) -> u64 {
     let judged = judge(volume).unwrap();
@@ -300,7 +286,7 @@ fn check_reached(counts: &BTreeMap<(&str, Became), u64>) {
         ("unlink", 1, &[12]),
         ("rename", 1, &[12]),
         ("write", 2, &[12, 15]),
-        ("set size", 2, &[12, 15]),
+        ("set_size", 2, &[12, 15]),
         ("clean", 3, &[12]),
     ] {
         for taken in 0..=most {
@@ -413,7 +399,7 @@ fn one_more_free_page() {
             *counts.entry((name_of(call), number)).or_default() += 1;
         }
     }
-    for name in ["create", "link", "write", "set size"] {
+    for name in ["create", "link", "write", "set_size"] {
         assert!(counts[&(name, 15)] > 20, "{name}: {counts:?}");
     }
     for name in ["unlink", "rename", "clean"] {

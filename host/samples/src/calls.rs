@@ -110,3 +110,17 @@ pub fn set_size(inode: u64, size: u64) -> Call {
 pub fn clean(inode: u64) -> Call {
     Call::Clean { inode }
 }
+
+/// A changing call's name.
+pub fn name_of(call: &Call) -> &'static str {
+    match call {
+        Call::Create { .. } => "create",
+        Call::Link { .. } => "link",
+        Call::Unlink { .. } => "unlink",
+        Call::Rename { .. } => "rename",
+        Call::Write { .. } => "write",
+        Call::SetSize { .. } => "set_size",
+        Call::Clean { .. } => "clean",
+        Call::Recover => "recover",
+    }
+}

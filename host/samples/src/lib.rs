@@ -42,7 +42,8 @@ pub use by_hand::{
     open_journal, put_entry, put_log, sample, text, words, zero_page,
 };
 pub use calls::{
-    clean, create, done, filled, link, map_of, marked_list, rename, run, set_size, unlink, write,
+    clean, create, done, filled, link, map_of, marked_list, name_of, rename, run, set_size, unlink,
+    write,
 };
 pub use cases::{cases, check_case, Before, CarryOut, Case, Library};
 pub use damage::{change_live_word, flip_live_bit, live_words};

@@ -3,7 +3,7 @@
 use crate::compiled::fill;
 use crate::lent::Lent;
 use reference::{judge, map, Answer, Call, FENCE};
-use samples::{any_call, any_calls, any_name, any_number, marked_list, Random};
+use samples::{any_call, any_calls, any_name, any_number, marked_list, name_of, Random};
 use std::collections::BTreeMap;
 use std::fmt::Arguments;
 
@@ -47,20 +47,6 @@ pub const CHANGES: [&str; 8] = [
 /// The longest volume, in bytes, and the most stretches for which gaps is compared with lists of every length.
 const SMALL: usize = 300 * 512;
 const FEW: u64 = 40;
-
-/// A changing call's name.
-fn name_of(call: &Call) -> &'static str {
-    match call {
-        Call::Create { .. } => "create",
-        Call::Link { .. } => "link",
-        Call::Unlink { .. } => "unlink",
-        Call::Rename { .. } => "rename",
-        Call::Write { .. } => "write",
-        Call::SetSize { .. } => "set_size",
-        Call::Clean { .. } => "clean",
-        Call::Recover => "recover",
-    }
-}
 
 /// A volume on which calls are compared. It may hold anything.
 pub struct Compared<'a> {
