@@ -17,7 +17,7 @@ pub enum Answer {
     Damaged,
     // 4: the journal is open.
     JournalOpen,
-    // 5: a name's length, or a byte in it, is not allowed.
+    // 5: a name's length, or a byte in it, is not allowed, or a name to be given is "." or "..".
     BadName,
     // 6: the name is absent, the inode invalid or out of range, or k too large.
     NotThere,

@@ -4,7 +4,7 @@ use Rattle.model.specs.Lists.{has}
 use Rattle.model.specs.Power.{Power, held, cut}
 use Rattle.model.specs.Answer.{Answer, refused, done, mapAnswer}
 use Rattle.model.proofs.Tests.{by-bool}
-use Rattle.cases.specs.Table.{Step, formats, calls, cuts, Row}
+use Rattle.cases.specs.Table.{Step, formats, calls, cuts, stores, Row}
 use Rattle.cases.specs.Run.{Holding, wordsOf, orVolume, volumeOf, filling, answer, leftBy, allHold}
 
 module _ {X Y : Type 0} (H : Holding X) (K : Holding Y) (Same : X → Y → Type 0) where
@@ -61,12 +61,14 @@ module _ {X Y : Type 0} (H : Holding X) (K : Holding Y) (Same : X → Y → Type
     answers r (formats P N) = formatting P N .0
     answers r (calls i c) = fillings _ _ c (volumes r i)
     answers r (cuts i c g kept) = fillings _ _ c (volumes r i)
+    answers r (stores i l) = refl
 
     lefts : {xs : List X} {ys : List Y} → AllSame xs ys → (t : Step) (l : Answer (List ℕ)) → Same (leftBy H xs t l) (leftBy K ys t l)
     unfolding leftBy
     lefts r (formats P N) l = formatting P N .1
     lefts r (calls i c) l = a .after held _ _ (wordsOf l) (volumes r i)
     lefts r (cuts i c g kept) l = a .after (cut g (λ w. has w kept)) _ _ (wordsOf l) (volumes r i)
+    lefts r (stores i s) l = a .after held _ _ (wordsOf l) (volumes r i)
 
     runs : {xs : List X} {ys : List Y} → AllSame xs ys → (rs : List Row) → allHold H rs xs ≡ allHold K rs ys
     unfolding allHold

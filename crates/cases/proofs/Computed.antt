@@ -9,7 +9,7 @@ use Rattle.model.specs.Lists.{bit, allBelow, sumBelow, valuesFrom, lowest, lowe
 use Rattle.model.specs.Words.{word, putWord, byteAt}
 use Rattle.model.specs.Layout.{sizesOk, inPages}
 use Rattle.model.specs.Journal.{positions, openCount, openPositions, openTargets, isOpen, putBack, view, targetOk, journalOk}
-use Rattle.model.specs.Entry.{nameField, entryAt, nameOk, fieldOk, fileEntryOk, nameEntryOk, writeWords, sizeWords, nameWords, addWords, removeWords}
+use Rattle.model.specs.Entry.{nameField, entryAt, nameOk, isDotName, newNameOk, fieldOk, fileEntryOk, nameEntryOk, writeWords, sizeWords, nameWords, addWords, removeWords}
 use Rattle.model.specs.Log.{walk, tailOk, pagesOf, logPages, pages, slots, entryWords, entries}
 use Rattle.model.specs.State.{emptyFile, fileStep, fileOf, fileByte, bytesOf, without, withName, nameStep, namesOf, inodeOf}
 use Rattle.model.specs.Accept.{mappedTo, usesBy, uses, free, freeCount, validOk, logOk, namesOk, servesOnce, endOk, inodeOk, viewOk, accepted}
@@ -21,7 +21,7 @@ use Rattle.model.specs.Public.{isVolume, volumeChecks, closedChecks, callChecks
 use Rattle.model.specs.Listing.{digits, decimal, firstLine, nameLine, refusalLine, nameLines, textOf, listingOf}
 
 on-words : allHold asWords table [] ≡ true
-unfolding table allHold volumeOf filling answer leftBy factHolds asWords stored carriedWords leavesWords formatWords bit allBelow sumBelow valuesFrom lowest lowestFew all filter foldl has count indexOf distinct sameList word putWord byteAt sizesOk inPages positions openCount openPositions openTargets isOpen putBack view targetOk journalOk nameField entryAt nameOk fieldOk fileEntryOk nameEntryOk writeWords sizeWords nameWords addWords removeWords walk tailOk pagesOf logPages pages slots entryWords entries emptyFile fileStep fileOf fileByte bytesOf without withName nameStep namesOf inodeOf mappedTo usesBy uses free freeCount validOk logOk namesOk servesOnce endOk inodeOk viewOk accepted oneWord run both onlyIf over landed listed storeList carried before group mixed leaves ahead stretches layEntries tailAfter tailPages layPages stretchEntries commitOne journalPairs targets commitTogether commit besides lowestRun lowestPages entriesOnly dataPages appended oldPages oldSlots freshPages freshLog pagesNeeded prepared newTail ownChanges pagesLeft allNeeded allPrepared allChanges roomChecks spaceChecks actionChecks actionGroups isFull release invalidInode createAction linkAction unlinkAction sameInode renameAction noFile writtenByte writeAppend writeAction cutsPage keptByte sizeAppend sizeAction cleanFile cleanNames cleanEntries cleanAction oldValues recoverAction action checks groups isVolume volumeChecks closedChecks callChecks fills formatted format size read countFree digits decimal firstLine nameLine refusalLine nameLines textOf listingOf
+unfolding table allHold volumeOf filling answer leftBy factHolds asWords stored carriedWords leavesWords formatWords bit allBelow sumBelow valuesFrom lowest lowestFew all filter foldl has count indexOf distinct sameList word putWord byteAt sizesOk inPages positions openCount openPositions openTargets isOpen putBack view targetOk journalOk nameField entryAt nameOk isDotName newNameOk fieldOk fileEntryOk nameEntryOk writeWords sizeWords nameWords addWords removeWords walk tailOk pagesOf logPages pages slots entryWords entries emptyFile fileStep fileOf fileByte bytesOf without withName nameStep namesOf inodeOf mappedTo usesBy uses free freeCount validOk logOk namesOk servesOnce endOk inodeOk viewOk accepted oneWord run both onlyIf over landed listed storeList carried before group mixed leaves ahead stretches layEntries tailAfter tailPages layPages stretchEntries commitOne journalPairs targets commitTogether commit besides lowestRun lowestPages entriesOnly dataPages appended oldPages oldSlots freshPages freshLog pagesNeeded prepared newTail ownChanges pagesLeft allNeeded allPrepared allChanges roomChecks spaceChecks actionChecks actionGroups isFull release invalidInode createAction linkAction unlinkAction sameInode renameAction noFile writtenByte writeAppend writeAction cutsPage keptByte sizeAppend sizeAction cleanFile cleanNames cleanEntries cleanAction oldValues recoverAction action checks groups isVolume volumeChecks closedChecks callChecks fills formatted format size read countFree digits decimal firstLine nameLine refusalLine nameLines textOf listingOf
 on-words = refl
 
 pub cases : Cases

@@ -18,8 +18,8 @@ use Rattle.model.specs.Answer.{Answer, refused, done, mapAnswer}
 use Rattle.model.specs.Public.{format, fills, size, read, countFree}
 use Rattle.model.specs.Listing.{listingOf}
 use Rattle.cases.specs.Table as Table
-use Rattle.cases.specs.Table.{Step, formats, calls, cuts, Expected, isDone, refuses, Fact, wordIs, freeIs, namesAre, sizeIs, dataIs}
-use Rattle.cases.specs.Table.{logIs, bytesAre, prints, Row, table}
+use Rattle.cases.specs.Table.{Step, formats, calls, cuts, stores, Expected, isDone, refuses, Fact, wordIs, freeIs, namesAre, sizeIs}
+use Rattle.cases.specs.Table.{dataIs, logIs, bytesAre, prints, Row, table}
 
 -- How volumes are held: as a Volume.
 pub record Holding (Volume : Type 0) : Type 0 where
@@ -91,11 +91,13 @@ module _ {Volume : Type 0} (H : Holding Volume) where
   answer vs (formats P N) = mapAnswer (λ v. []) (H .format (H .blank P) P N)
   answer vs (calls i c) = filling (volumeOf vs i) c
   answer vs (cuts i c g kept) = filling (volumeOf vs i) c
+  answer vs (stores i l) = done l
 
   unfoldable pub leftBy : List Volume → Step → Answer (List ℕ) → Volume
   leftBy vs (formats P N) a = orVolume (H .blank P) (H .format (H .blank P) P N)
   leftBy vs (calls i c) a = H .after held (volumeOf vs i) (wordsOf a)
   leftBy vs (cuts i c g kept) a = H .after (cut g (λ w. has w kept)) (volumeOf vs i) (wordsOf a)
+  leftBy vs (stores i l) a = H .after held (volumeOf vs i) (wordsOf a)
 
   -- whether every row is as expected
   unfoldable pub allHold : List Row → List Volume → Bool

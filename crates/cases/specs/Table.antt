@@ -1,8 +1,9 @@
--- Cases A to K and M of document 01, "Campsite examples", and nineteen rows more, as rows of one table. A row is data: where it starts,
+-- Cases A to K and M of document 01, "Campsite examples", and 28 rows more, as rows of one table. A row is data: where it starts,
 -- what is called, what is expected.
 use Prim.Native.Nat.{ℕ, _+_, _%_}
 use mathlib.Core.List.{List, [], _∷_}
 use Rattle.model.specs.Lists.{valuesFrom}
+use Rattle.model.specs.Stores.{fence}
 use Rattle.model.specs.FileMap.{Call, create, link, unlink, rename, write, setSize, clean, recover}
 
 -- What a row does.
@@ -13,6 +14,8 @@ pub data Step : Type 0 where
   calls : (start : ℕ) → (call : Call) → Step
   -- make a call on the volume that row `start` left; it is cut in group g, counted from 0, of which the words `kept` land
   cuts : (start : ℕ) → (call : Call) → (g : ℕ) → (kept : List ℕ) → Step
+  -- carry a list that no call filled out on the volume that row `start` left
+  stores : (start : ℕ) → (list : List ℕ) → Step
 
 -- The answer that is expected: done, done with a count of words, or refused with a number.
 pub data Expected : Type 0 where
@@ -65,6 +68,9 @@ linked = 13
 abbrev M : ℕ
 M = 32
 
+abbrev dots : ℕ
+dots = 35
+
 -- "A1"
 abbrev A1 : List ℕ
 A1 = 65 ∷ 49 ∷ []
@@ -81,6 +87,14 @@ A3 = 65 ∷ 51 ∷ []
 abbrev A4 : List ℕ
 A4 = 65 ∷ 52 ∷ []
 
+-- "."
+abbrev dot : List ℕ
+dot = 46 ∷ []
+
+-- ".."
+abbrev dotDot : List ℕ
+dotDot = 46 ∷ 46 ∷ []
+
 -- n bytes to write: 1, 2, 3 and so on up to 255, then again. Document 01 leaves their values open.
 abbrev bytes : ℕ → List ℕ
 bytes n = valuesFrom (λ i. i % 255 + 1) 0 n
@@ -90,6 +104,12 @@ abbrev listingC : List ℕ
 listingC =
     102 ∷ 105 ∷ 108 ∷ 101 ∷ 115 ∷ 32 ∷ 49 ∷ 32 ∷ 102 ∷ 114 ∷ 101 ∷ 101 ∷ 32 ∷ 49 ∷ 48 ∷ 10
     ∷ 49 ∷ 32 ∷ 53 ∷ 49 ∷ 52 ∷ 32 ∷ 65 ∷ 49 ∷ 10 ∷ []
+
+-- "files 2 free 13", "1 0 ." and "1 0 ..", each ended by a newline
+abbrev listingDots : List ℕ
+listingDots =
+    102 ∷ 105 ∷ 108 ∷ 101 ∷ 115 ∷ 32 ∷ 50 ∷ 32 ∷ 102 ∷ 114 ∷ 101 ∷ 101 ∷ 32 ∷ 49 ∷ 51 ∷ 10
+    ∷ 49 ∷ 32 ∷ 48 ∷ 32 ∷ 46 ∷ 10 ∷ 49 ∷ 32 ∷ 48 ∷ 32 ∷ 46 ∷ 46 ∷ 10 ∷ []
 
 unfoldable pub table : List Row
 table =
@@ -187,4 +207,21 @@ table =
     ∷ record { step = calls B (write 1 0 (bytes 4096)); answer = isDone; facts = freeIs 4 ∷ [] }
     ∷ record { step = calls M (write 1 4096 (bytes 1537)); answer = refuses 15; facts = [] }
     ∷ record { step = calls M (write 1 4096 (bytes 2049)); answer = refuses 12; facts = [] }
+    -- Document 02, order 5. The two names of row 13 become "." and "..", as a volume from before the order may have them: the lengths and
+    -- the first words of the names in the directory's first two entries.
+    ∷ record {
+      step = stores linked (130 ∷ 1 ∷ 131 ∷ 46 ∷ 138 ∷ 2 ∷ 139 ∷ 11822 ∷ fence ∷ 0 ∷ []);
+      answer = isDone;
+      facts = prints listingDots ∷ [];
+    }
+    -- Neither can be given: 5 comes before "nothing changes", before 7 and before 6.
+    ∷ record { step = calls dots (rename dot dot); answer = refuses 5; facts = [] }
+    ∷ record { step = calls dots (rename dot dotDot); answer = refuses 5; facts = [] }
+    ∷ record { step = calls dots (create dotDot); answer = refuses 5; facts = [] }
+    ∷ record { step = calls dots (link A1 dot); answer = refuses 5; facts = [] }
+    -- Each can be unlinked, linked and renamed away. "..." and ".a" are names as any other.
+    ∷ record { step = calls dots (unlink dotDot); answer = fills 22; facts = namesAre 1 ∷ [] }
+    ∷ record { step = calls dots (link dot (46 ∷ 46 ∷ 46 ∷ [])); answer = fills 22; facts = namesAre 3 ∷ [] }
+    ∷ record { step = calls dots (rename dotDot (46 ∷ 97 ∷ [])); answer = fills 38; facts = namesAre 2 ∷ wordIs 155 24878 ∷ [] }
+    ∷ record { step = calls B (create (46 ∷ 46 ∷ 46 ∷ [])); answer = fills 44; facts = namesAre 2 ∷ [] }
     ∷ []

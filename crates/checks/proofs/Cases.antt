@@ -3,7 +3,7 @@ use Rattle.model.proofs.Prelude.{ℕ, _≤_, _<_, _≡_, refl, Bool, true, fals
 use Rattle.model.specs.Lists.{isSome}
 use Rattle.model.specs.Words.{Mem}
 use Rattle.model.specs.Layout.{mostNames}
-use Rattle.model.specs.Entry.{nameOk}
+use Rattle.model.specs.Entry.{nameOk, newNameOk}
 use Rattle.model.specs.State.{Names, inodeOf}
 use Rattle.model.specs.Answer.{refused, done, Checks, firstRefusal, badName, notThere, taken, noInode, directoryFull}
 use Rattle.model.specs.Calls.{invalidInode}
@@ -25,15 +25,11 @@ module _ (m : Mem) (L c : ℕ) (t : List ℕ) (filled : Filled m L c t) where
   count-is : length ns ≡ c
   count-is = standing-length m L t c filled
 
-  -- f is what `is_name` answered of the name n, k what `find_name` answered of it
+  -- Unlink: f is what `is_name` answered of the name n, k what `find_name` answered of it.
   module _ (n : List ℕ) (f : Bool) (a : f ≡ nameOk n) where
     pub unlink-bad : not f ≡ true → refused badName ≡ numbered (firstRefusal (unlinkFirst ns n) (done (inodeOf ns n)))
     unfolding unlinkFirst
     unlink-bad y = rw (← a, not-true f y)
-
-    pub create-bad : (u : Mem) (N : ℕ) → not f ≡ true → refused badName ≡ numbered (firstRefusal (createFirst u N ns n) (done (freeInode u N)))
-    unfolding createFirst
-    create-bad u N y = rw (← a, not-true f y)
 
     module _ (y : not f ≡ false) (k : ℕ) (b : k ≡ inodeOf ns n) where
       pub unlink-absent : k ≡ 0 → refused notThere ≡ numbered (firstRefusal (unlinkFirst ns n) (done (inodeOf ns n)))
@@ -44,37 +40,43 @@ module _ (m : Mem) (L c : ℕ) (t : List ℕ) (filled : Filled m L c t) where
       unfolding unlinkFirst
       unlink-is z = rw (← a, not-false f y, ← b, ne-eqb k 0 z)
 
-      module _ (u : Mem) (N : ℕ) where
-        pub create-taken : (k ≡ 0 → ⊥) → refused taken ≡ numbered (firstRefusal (createFirst u N ns n) (done (freeInode u N)))
+  -- Create: f is what `is_new_name` answered of the name n, k what `find_name` answered of it.
+  module _ (u : Mem) (N : ℕ) (n : List ℕ) (f : Bool) (a : f ≡ newNameOk n) where
+    pub create-bad : not f ≡ true → refused badName ≡ numbered (firstRefusal (createFirst u N ns n) (done (freeInode u N)))
+    unfolding createFirst
+    create-bad y = rw (← a, not-true f y)
+
+    module _ (y : not f ≡ false) (k : ℕ) (b : k ≡ inodeOf ns n) where
+      pub create-taken : (k ≡ 0 → ⊥) → refused taken ≡ numbered (firstRefusal (createFirst u N ns n) (done (freeInode u N)))
+      unfolding createFirst
+      create-taken z = rw (← a, not-false f y, ← b, ne-eqb k 0 z)
+
+      -- i is what `free_inode` answered
+      module _ (z : k ≡ 0) (i : ℕ) (e : i ≡ freeInode u N) where
+        some-is : isSome (firstInvalid u N) ≡ not (eqb i 0)
+        unfolding invalidInode
+        some-is = inode-some u 0 N i e
+
+        pub create-none : i ≡ 0 → refused noInode ≡ numbered (firstRefusal (createFirst u N ns n) (done (freeInode u N)))
         unfolding createFirst
-        create-taken z = rw (← a, not-false f y, ← b, ne-eqb k 0 z)
+        create-none x = rw (← a, not-false f y, ← b, eq-eqb k 0 z, some-is, eq-eqb i 0 x)
 
-        -- i is what `free_inode` answered
-        module _ (z : k ≡ 0) (i : ℕ) (e : i ≡ freeInode u N) where
-          some-is : isSome (firstInvalid u N) ≡ not (eqb i 0)
-          unfolding invalidInode
-          some-is = inode-some u 0 N i e
-
-          pub create-none : i ≡ 0 → refused noInode ≡ numbered (firstRefusal (createFirst u N ns n) (done (freeInode u N)))
+        module _ (x : i ≡ 0 → ⊥) where
+          pub create-full : 224 ≤ c → refused directoryFull ≡ numbered (firstRefusal (createFirst u N ns n) (done (freeInode u N)))
           unfolding createFirst
-          create-none x = rw (← a, not-false f y, ← b, eq-eqb k 0 z, some-is, eq-eqb i 0 x)
+          create-full l = rw (← a, not-false f y, ← b, eq-eqb k 0 z, some-is, ne-eqb i 0 x, count-is, le-leb 224 c l)
 
-          module _ (x : i ≡ 0 → ⊥) where
-            pub create-full : 224 ≤ c → refused directoryFull ≡ numbered (firstRefusal (createFirst u N ns n) (done (freeInode u N)))
-            unfolding createFirst
-            create-full l = rw (← a, not-false f y, ← b, eq-eqb k 0 z, some-is, ne-eqb i 0 x, count-is, le-leb 224 c l)
+          pub create-is : c < 224 → done (some i) ≡ numbered (firstRefusal (createFirst u N ns n) (done (freeInode u N)))
+          unfolding createFirst
+          create-is l = rw (← a, not-false f y, ← b, eq-eqb k 0 z, some-is, ne-eqb i 0 x, count-is, lt-leb 224 c l, ← e)
 
-            pub create-is : c < 224 → done (some i) ≡ numbered (firstRefusal (createFirst u N ns n) (done (freeInode u N)))
-            unfolding createFirst
-            create-is l = rw (← a, not-false f y, ← b, eq-eqb k 0 z, some-is, ne-eqb i 0 x, count-is, lt-leb 224 c l, ← e)
-
-  -- two names: f and g are what `is_name` answered of them
+  -- Rename: f is what `is_name` answered of the old name n, g what `is_new_name` answered of the new name o.
   module _ (n o : List ℕ) (f g : Bool) (a : f ≡ nameOk n) where
     pub rename-bad-old : not f ≡ true → refused badName ≡ numbered (firstRefusal (renameFirst ns n o) (done (inodeOf ns n)))
     unfolding renameFirst
     rename-bad-old y = rw (← a, not-true f y)
 
-    module _ (y : not f ≡ false) (b : g ≡ nameOk o) where
+    module _ (y : not f ≡ false) (b : g ≡ newNameOk o) where
       pub rename-bad-new : not g ≡ true → refused badName ≡ numbered (firstRefusal (renameFirst ns n o) (done (inodeOf ns n)))
       unfolding renameFirst
       rename-bad-new z = rw (← a, not-false f y, ← b, not-true g z)

@@ -8,7 +8,7 @@ use lib.ListN.{length}
 use Rattle.model.specs.Lists.{lowest, orElse, isSome}
 use Rattle.model.specs.Words.{Mem}
 use Rattle.model.specs.Layout.{mostNames}
-use Rattle.model.specs.Entry.{nameOk}
+use Rattle.model.specs.Entry.{nameOk, newNameOk}
 use Rattle.model.specs.State.{Names, inodeOf}
 use Rattle.model.specs.Accept.{isValid}
 use Rattle.model.specs.Answer.{Checks, badName, notThere, taken, noInode, directoryFull}
@@ -25,15 +25,15 @@ isThere ns n = not (eqb (inodeOf ns n) 0)
 
 unfoldable pub createFirst : Mem → ℕ → Names → List ℕ → Checks
 createFirst u N ns n =
-    (not (nameOk n), badName) ∷ (isThere ns n, taken) ∷ (not (isSome (firstInvalid u N)), noInode)
+    (not (newNameOk n), badName) ∷ (isThere ns n, taken) ∷ (not (isSome (firstInvalid u N)), noInode)
     ∷ (leb mostNames (length ns), directoryFull) ∷ []
 
 unfoldable pub renameFirst : Names → List ℕ → List ℕ → Checks
-renameFirst ns a b = (not (nameOk a && nameOk b), badName) ∷ (not (isThere ns a), notThere) ∷ []
+renameFirst ns a b = (not (nameOk a && newNameOk b), badName) ∷ (not (isThere ns a), notThere) ∷ []
 
 unfoldable pub linkFirst : Names → List ℕ → List ℕ → Checks
 linkFirst ns a b =
-    (not (nameOk a && nameOk b), badName) ∷ (not (isThere ns a), notThere) ∷ (isThere ns b, taken)
+    (not (nameOk a && newNameOk b), badName) ∷ (not (isThere ns a), notThere) ∷ (isThere ns b, taken)
     ∷ (leb mostNames (length ns), directoryFull) ∷ []
 
 unfoldable pub unlinkFirst : Names → List ℕ → Checks

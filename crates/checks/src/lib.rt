@@ -13,9 +13,9 @@ ghost use Rattle.model.specs.State.{inodeOf};
 use answer::Answer;
 use layout::MOST_NAMES;
 
-// Answers Number with the inode that a new file of this name gets, the lowest that is not valid; BadName, Taken, NoInode or
-// DirectoryFull.
-// Example: of a volume just formatted create_checks(v, places, 0, b"A1") is Number(1) and create_checks(v, places, 0, b"") BadName.
+// Answers Number with the inode that a new file of this name gets, the lowest that is not valid; BadName where no file may be given the
+// name, Taken, NoInode or DirectoryFull.
+// Example: of a volume just formatted create_checks(v, places, 0, b"A1") is Number(1) and create_checks(v, places, 0, b".") BadName.
 pub fn create_checks(
     v: &[u8],
     places: &[u16; 224],
@@ -29,7 +29,7 @@ pub fn create_checks(
         (now (name .entry)))
         (done (freeInode (view (word (now (v .entry)))) inodes))) ⌝ }
 {
-    if !lookup::is_name(name) {
+    if !lookup::is_new_name(name) {
         return Answer::BadName;
     }
     if lookup::find_name(v, places, count, name) != 0 {
@@ -85,8 +85,9 @@ pub fn unlink_checks(v: &[u8], places: &[u16; 224], count: usize, name: &[u8]) -
     Answer::Number(leads)
 }
 
-// Answers Number with the inode that the old name leads to; BadName where either is no name, or NotThere.
-// Example: where "A1" leads to inode 1, rename_checks(v, places, 1, b"A1", b"A2") is Number(1), rename_checks(v, places, 1, b"A1", b"")
+// Answers Number with the inode that the old name leads to; BadName where the old one is no name, or no file may be given the new one;
+// or NotThere.
+// Example: where "A1" leads to inode 1, rename_checks(v, places, 1, b"A1", b"A2") is Number(1), rename_checks(v, places, 1, b"A1", b".")
 // BadName and rename_checks(v, places, 1, b"A2", b"A1") NotThere.
 pub fn rename_checks(v: &[u8], places: &[u16; 224], count: usize, old: &[u8], new: &[u8]) -> Answer
     requires { ⌜ Filled (word (now v)) (length (now v)) count (now places) ⌝ }
@@ -97,7 +98,7 @@ pub fn rename_checks(v: &[u8], places: &[u16; 224], count: usize, old: &[u8], ne
     if !lookup::is_name(old) {
         return Answer::BadName;
     }
-    if !lookup::is_name(new) {
+    if !lookup::is_new_name(new) {
         return Answer::BadName;
     }
     let inode = lookup::find_name(v, places, count, old);

@@ -117,7 +117,7 @@ pub extern "C" fn volume_gaps(volume: &[u8], pairs: &mut [u64]) -> i64
 
 // Fills a store list that makes a new, empty file with a name. Answers the count of words filled, or minus the number of the refusal: 1
 // short memory, 2 no volume, 3 damaged, 4 journal open, 5 bad name, 7 taken, 10 no inode, 11 directory full, 12 no space, 15 last page; the
-// list is then left as it was, here and below.
+// list is then left as it was, here and below. The names "." and ".." are 5, here and as the new name of link and rename.
 // Example: of 16 pages just formatted with 8 inodes the name "A1" answers 46.
 #[no_mangle]
 pub extern "C" fn volume_create(volume: &[u8], name: &[u8], list: &mut [u64]) -> i64

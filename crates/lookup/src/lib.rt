@@ -8,7 +8,7 @@ ghost use Prim.Native.Nat.{_+_, _*_, _≤_};
 ghost use lib.ListN.{length, take, drop};
 ghost use Rattle.model.specs.Lists.{all, sameList, valuesFrom};
 ghost use Rattle.model.specs.Words.{word, byteAt};
-ghost use Rattle.model.specs.Entry.{nameByteOk, nameOk, padded};
+ghost use Rattle.model.specs.Entry.{nameByteOk, nameOk, isDotName, newNameOk, padded};
 ghost use Rattle.model.specs.State.{inodeOf};
 ghost use Rattle.directory.specs.Fields.{nameAt, fieldAt};
 ghost use Rattle.directory.specs.Places.{standing, placeOk, Filled};
@@ -32,7 +32,7 @@ fn bytes_ok(name: &[u8]) -> bool
     true
 }
 
-// Answers whether the bytes are a name: 1 to 32 of them, none 0 or 47.
+// Answers whether the bytes are a name that may stand: 1 to 32 of them, none 0 or 47.
 // Example: "ab" and 32 times "a" are names; "", 33 times "a" and "a/b" are not.
 pub fn is_name(name: &[u8]) -> bool
     ensures { λ r. ⌜ r ≡ nameOk (now (name .entry)) ⌝ }
@@ -44,6 +44,34 @@ pub fn is_name(name: &[u8]) -> bool
         return false;
     }
     bytes_ok(name)
+}
+
+// Answers whether the bytes are "." or "..", which POSIX keeps for a directory itself and its parent.
+// Example: of "." and ".." it is true, of "...", ".a" and no bytes false.
+fn is_dot_name(name: &[u8]) -> bool
+    ensures { λ r. ⌜ r ≡ isDotName (now (name .entry)) ⌝ }
+{
+    if name.len() == 1 {
+        return name[0] == 46;
+    }
+    if name.len() != 2 {
+        return false;
+    }
+    if name[0] != 46 {
+        return false;
+    }
+    name[1] == 46
+}
+
+// Answers whether the bytes are a name that a file may be given: a name, and not "." or "..".
+// Example: "ab", ".a" and "..." are such names; ".", ".." and "a/b" are not.
+pub fn is_new_name(name: &[u8]) -> bool
+    ensures { λ r. ⌜ r ≡ newNameOk (now (name .entry)) ⌝ }
+{
+    if !is_name(name) {
+        return false;
+    }
+    !is_dot_name(name)
 }
 
 // Reads the inode of the add entry at a place, and answers it.

@@ -14,10 +14,10 @@ use Rattle.model.proofs.ThirdDemand.{every-call-safe}
 
 -- One event.
 
-step : (v : List ℕ) → Bytes v → isAccepted v ≡ true → (e : Event) → CallBytes (e .call) → Step v (volumeAfter 8 v e) e
+pub step : (v : List ℕ) → Bytes v → isAccepted v ≡ true → (e : Event) → CallBytes (e .call) → Step v (volumeAfter 8 v e) e
 step v b a e n = history-kept every-call-safe v b a (e ∷ []) (n, tt) .0
 
-bytes-after : (v : List ℕ) → Bytes v → (e : Event) → Bytes (volumeAfter 8 v e)
+pub bytes-after : (v : List ℕ) → Bytes v → (e : Event) → Bytes (volumeAfter 8 v e)
 unfolding volumeAfter
 bytes-after v b e = go (answerTo v e)
   where

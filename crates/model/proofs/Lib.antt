@@ -18,3 +18,4 @@ pub mod StoreLists
 pub mod Counting
 pub mod Served
 pub mod Gaps
+pub mod DotNames

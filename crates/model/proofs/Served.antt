@@ -4,7 +4,7 @@ use Rattle.model.specs.Lists.{bit, has, isSome, orElse}
 use Rattle.model.specs.Words.{Mem, word}
 use Rattle.model.specs.Layout.{root, tailWord, fileBytes, writeBytes, mostNames, listWords}
 use Rattle.model.specs.Journal.{isOpen, view}
-use Rattle.model.specs.Entry.{nameOk, addWords, removeWords}
+use Rattle.model.specs.Entry.{nameOk, newNameOk, addWords, removeWords}
 use Rattle.model.specs.State.{fileOf, namesOf, inodeOf}
 use Rattle.model.specs.Accept.{isValid, isFile, free, freeCount, viewOk, accepted}
 use Rattle.model.specs.FileMap.{mapOf, bytesIn, newInode, Call, create, link, unlink, rename, write, setSize, clean, recover}
@@ -148,18 +148,18 @@ module _ (v : List ℕ) (a : isAccepted v ≡ true) (o : isOpen (word v) ≡ fal
         ∙ rw (le-ltb (length list) listWords long, w, ok, o, and-false (needsClosed c), same-view)
 
     creates : (n : List ℕ) → isServed (callAnswer v list (create n))
-        ≡ every (nameOk n ∷ not (named (mapIn v) n) ∷ not (eqb (newInode N (mapIn v)) 0) ∷ ltb (length (mapIn v .names)) mostNames ∷ leavesPage v root 1 0 ∷ [])
+        ≡ every (newNameOk n ∷ not (named (mapIn v) n) ∷ not (eqb (newInode N (mapIn v)) 0) ∷ ltb (length (mapIn v .names)) mostNames ∷ leavesPage v root 1 0 ∷ [])
     unfolding action actionChecks createAction isFull mapIn mapOf
     creates n =
         front (create n)
-        ∙ rw (same-view, not-not (nameOk n), inode-there, not-leb mostNames (length (namesOf u P N root)), names-space true (addWords (orElse (invalidInode u P N) 0) n ∷ []), room-kept (pagesTaken v root 1 0))
+        ∙ rw (same-view, not-not (newNameOk n), inode-there, not-leb mostNames (length (namesOf u P N root)), names-space true (addWords (orElse (invalidInode u P N) 0) n ∷ []), room-kept (pagesTaken v root 1 0))
 
     links : (x y : List ℕ) → isServed (callAnswer v list (link x y))
-        ≡ every ((nameOk x && nameOk y) ∷ named (mapIn v) x ∷ not (named (mapIn v) y) ∷ ltb (length (mapIn v .names)) mostNames ∷ leavesPage v root 1 0 ∷ [])
+        ≡ every ((nameOk x && newNameOk y) ∷ named (mapIn v) x ∷ not (named (mapIn v) y) ∷ ltb (length (mapIn v .names)) mostNames ∷ leavesPage v root 1 0 ∷ [])
     unfolding action actionChecks linkAction isFull mapIn mapOf
     links x y =
         front (link x y)
-        ∙ rw (same-view, not-not (nameOk x && nameOk y), not-not (named (mapOf u P N) x), not-leb mostNames (length (namesOf u P N root)), names-space true (addWords (inodeOf (namesOf u P N root) x) y ∷ []), room-kept (pagesTaken v root 1 0))
+        ∙ rw (same-view, not-not (nameOk x && newNameOk y), not-not (named (mapOf u P N) x), not-leb mostNames (length (namesOf u P N root)), names-space true (addWords (inodeOf (namesOf u P N root) x) y ∷ []), room-kept (pagesTaken v root 1 0))
 
     unlinks : (n : List ℕ) → isServed (callAnswer v list (unlink n)) ≡ every (nameOk n ∷ named (mapIn v) n ∷ hasSpace v root 1 0 ∷ [])
     unfolding action actionChecks unlinkAction mapIn mapOf
@@ -168,12 +168,12 @@ module _ (v : List ℕ) (a : isAccepted v ≡ true) (o : isOpen (word v) ≡ fal
         ∙ rw (same-view, not-not (nameOk n), not-not (named (mapOf u P N) n), names-space false (removeWords n ∷ []), room-is (pagesTaken v root 1 0))
 
     renames : (x y : List ℕ) → isServed (callAnswer v list (rename x y))
-        ≡ every ((nameOk x && nameOk y) ∷ named (mapIn v) x ∷ (eqb (inodeOf (mapIn v .names) x) (inodeOf (mapIn v .names) y) || hasSpace v root 2 0) ∷ [])
+        ≡ every ((nameOk x && newNameOk y) ∷ named (mapIn v) x ∷ (eqb (inodeOf (mapIn v .names) x) (inodeOf (mapIn v .names) y) || hasSpace v root 2 0) ∷ [])
     unfolding action actionChecks renameAction sameInode mapIn mapOf
     renames x y =
         let ns = namesOf u P N root in
         front (rename x y)
-        ∙ rw (same-view, not-not (nameOk x && nameOk y), not-not (named (mapOf u P N) x))
+        ∙ rw (same-view, not-not (nameOk x && newNameOk y), not-not (named (mapOf u P N) x))
         (by-bool (eqb (inodeOf ns x) (inodeOf ns y)) (λ e. rw e)
         (λ e. rw (e, names-space false (removeWords x ∷ addWords (inodeOf ns x) y ∷ []), room-is (pagesTaken v root 2 0))))
 

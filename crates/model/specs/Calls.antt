@@ -12,7 +12,7 @@ use Rattle.model.specs.Words.{Mem, leFrom}
 use Rattle.model.specs.Layout.{validWord, headWord, tailWord, root, isDirectory, pageEntries, filePages, fileBytes}
 use Rattle.model.specs.Layout.{writeBytes, mostNames}
 use Rattle.model.specs.Journal.{dequeueWord, enqueueWord, positionCount, targetWord, oldWord, nextPosition, openTargets, isOpen, view}
-use Rattle.model.specs.Entry.{nameOk, writeWords, sizeWords, addWords, removeWords}
+use Rattle.model.specs.Entry.{nameOk, newNameOk, writeWords, sizeWords, addWords, removeWords}
 use Rattle.model.specs.Log.{tailSlots}
 use Rattle.model.specs.State.{File, fileOf, fileByte, Names, namesOf, inodeOf, inodes}
 use Rattle.model.specs.Accept.{isValid, isFile, free, freeCount}
@@ -255,7 +255,7 @@ module _ (u : Mem) (P N : ℕ) where
   createAction d n =
       let i = orElse invalidInode 0 in
       record {
-        always = (not (nameOk n), badName) ∷ (stands d n, taken) ∷ (not (isSome invalidInode), noInode) ∷ (isFull d, directoryFull) ∷ [];
+        always = (not (newNameOk n), badName) ∷ (stands d n, taken) ∷ (not (isSome invalidInode), noInode) ∷ (isFull d, directoryFull) ∷ [];
         unchanged = false;
         changing = [];
         keeps = true;
@@ -267,7 +267,7 @@ module _ (u : Mem) (P N : ℕ) where
   unfoldable pub linkAction : ℕ → List ℕ → List ℕ → Action
   linkAction d a b =
       record {
-        always = (not (nameOk a && nameOk b), badName) ∷ (not (stands d a), notThere) ∷ (stands d b, taken)
+        always = (not (nameOk a && newNameOk b), badName) ∷ (not (stands d a), notThere) ∷ (stands d b, taken)
             ∷ (isFull d, directoryFull) ∷ [];
         unchanged = false;
         changing = [];
@@ -296,7 +296,7 @@ module _ (u : Mem) (P N : ℕ) where
   unfoldable pub renameAction : ℕ → List ℕ → List ℕ → Action
   renameAction d a b =
       record {
-        always = (not (nameOk a && nameOk b), badName) ∷ (not (stands d a), notThere) ∷ [];
+        always = (not (nameOk a && newNameOk b), badName) ∷ (not (stands d a), notThere) ∷ [];
         unchanged = sameInode d a b;
         changing = [];
         keeps = false;

@@ -1,10 +1,10 @@
 -- Log entries of document 01, "Volume": eight words, four kinds, each with its own fields.
 use Prim.Native.Nat.{ℕ, _+_, _-_, _*_}
-use mathlib.Core.Bool.{Bool, false, cond, _&&_, not}
+use mathlib.Core.Bool.{Bool, false, cond, _&&_, _||_, not}
 use mathlib.Core.List.{List, [], _∷_, _++_}
 use lib.ListN.{length, take, drop, replicate}
 use lib.Dec.{leb, ltb, eqb}
-use Rattle.model.specs.Lists.{all, valuesFrom}
+use Rattle.model.specs.Lists.{all, sameList, valuesFrom}
 use Rattle.model.specs.Words.{Mem, word, byteAt}
 use Rattle.model.specs.Layout.{tablePages, filePages, fileBytes, nameBytes}
 
@@ -41,8 +41,17 @@ entryAt m w =
 abbrev pub nameByteOk : ℕ → Bool
 nameByteOk b = not (eqb b 0) && not (eqb b 47)
 
+-- a name that may stand
 unfoldable pub nameOk : List ℕ → Bool
 nameOk n = leb 1 (length n) && leb (length n) nameBytes && all nameByteOk n
+
+-- Document 02, order 5: "POSIX keeps the names "." and ".." for the directory itself and its parent." 46 is the full stop.
+unfoldable pub isDotName : List ℕ → Bool
+isDotName n = sameList n (46 ∷ []) || sameList n (46 ∷ 46 ∷ [])
+
+-- "Create, link's new name and rename's new name shall no longer accept them.": a name that a file may be given
+unfoldable pub newNameOk : List ℕ → Bool
+newNameOk n = nameOk n && not (isDotName n)
 
 -- "the bytes after a name are 0"
 abbrev pub isZero : ℕ → Bool

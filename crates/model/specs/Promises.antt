@@ -1,5 +1,5 @@
 -- What else is promised: corollaries of the third demand, the shape of every store list, format, the reading calls in terms of the file
--- map, the calls that are served, the gaps, and the page kept back.
+-- map, the calls that are served, the gaps, the page kept back, and the dot names.
 use Prim.Native.Nat.{ℕ, _+_, _-_, _*_, _^_, _≤_, _<_}
 use mathlib.Core.Path.{_≡_}
 use mathlib.Core.Logic.{_⊎_}
@@ -12,7 +12,7 @@ use Rattle.model.specs.Lists.{bit, has, isSome}
 use Rattle.model.specs.Words.{word}
 use Rattle.model.specs.Layout.{root, tailWord, fileBytes, writeBytes, mostNames, sizesOk, tablePages, listWords}
 use Rattle.model.specs.Journal.{isOpen, view}
-use Rattle.model.specs.Entry.{nameOk, padded}
+use Rattle.model.specs.Entry.{nameOk, isDotName, newNameOk, padded}
 use Rattle.model.specs.Log.{tailSlots}
 use Rattle.model.specs.State.{inodeOf}
 use Rattle.model.specs.Accept.{free, freeCount, gaps}
@@ -217,13 +217,13 @@ module _ (v : List ℕ) where
   -- each call with a lent list; M is the file map
   pub record Serves (list : List ℕ) (M : FileMap) : Type 0 where
     pub creates : (n : List ℕ) → isServed (callAnswer v list (create n))
-        ≡ every (nameOk n ∷ not (named M n) ∷ not (eqb (newInode (word v 1) M) 0) ∷ ltb (length (M .names)) mostNames
+        ≡ every (newNameOk n ∷ not (named M n) ∷ not (eqb (newInode (word v 1) M) 0) ∷ ltb (length (M .names)) mostNames
         ∷ leavesPage root 1 0 ∷ [])
     pub links : (a b : List ℕ) → isServed (callAnswer v list (link a b))
-        ≡ every ((nameOk a && nameOk b) ∷ named M a ∷ not (named M b) ∷ ltb (length (M .names)) mostNames ∷ leavesPage root 1 0 ∷ [])
+        ≡ every ((nameOk a && newNameOk b) ∷ named M a ∷ not (named M b) ∷ ltb (length (M .names)) mostNames ∷ leavesPage root 1 0 ∷ [])
     pub unlinks : (n : List ℕ) → isServed (callAnswer v list (unlink n)) ≡ every (nameOk n ∷ named M n ∷ hasSpace root 1 0 ∷ [])
     pub renames : (a b : List ℕ) → isServed (callAnswer v list (rename a b))
-        ≡ every ((nameOk a && nameOk b) ∷ named M a ∷ (eqb (inodeOf (M .names) a) (inodeOf (M .names) b) || hasSpace root 2 0) ∷ [])
+        ≡ every ((nameOk a && newNameOk b) ∷ named M a ∷ (eqb (inodeOf (M .names) a) (inodeOf (M .names) b) || hasSpace root 2 0) ∷ [])
     pub writes : (k o : ℕ) (bs : List ℕ) → isServed (callAnswer v list (write k o bs))
         ≡ every (isSome (M .files k) ∷ leb (length bs) writeBytes ∷ leb (o + length bs) fileBytes
         ∷ (eqb (length bs) 0 || leavesPage k (writesFor (pagesCovered o (o + length bs))) (pagesCovered o (o + length bs))) ∷ [])
@@ -277,7 +277,7 @@ GapsDone = (v : List ℕ) → isAccepted v ≡ true → GapsFine v (gaps (view (
 -- most
 pub record Removes (v list : List ℕ) (M : FileMap) : Type 0 where
   pub unlinks : (n : List ℕ) → named M n ≡ true → isServed (callAnswer v list (unlink n)) ≡ true
-  pub renames : (a b : List ℕ) → named M a ≡ true → nameOk b ≡ true → isServed (callAnswer v list (rename a b)) ≡ true
+  pub renames : (a b : List ℕ) → named M a ≡ true → newNameOk b ≡ true → isServed (callAnswer v list (rename a b)) ≡ true
 
 abbrev pub RemovingServed : Type 0
 RemovingServed =
@@ -308,3 +308,17 @@ PageStays v (e ∷ es) =
 
 abbrev pub PageKept : Type 0
 PageKept = (v : List ℕ) → Bytes v → isAccepted v ≡ true → (es : History) → HistoryBytes es → PageStays v es
+
+-- Dot names (document 02, order 5).
+
+-- the volume that a history which starts at v ends with
+abbrev pub volumeLeft : List ℕ → History → List ℕ
+volumeLeft v [] = v
+volumeLeft v (e ∷ es) = volumeLeft (volumeAfter 8 v e) es
+
+-- "Create, link's new name and rename's new name shall no longer accept them.": after any history, its calls landed, cut or refused, no "."
+-- and no ".." stands that did not stand before it
+abbrev pub NoNewDotName : Type 0
+NoNewDotName =
+    (v : List ℕ) → Bytes v → isAccepted v ≡ true → (es : History) → HistoryBytes es → (n : List ℕ) → isDotName n ≡ true
+    → named (mapIn v) n ≡ false → named (mapIn (volumeLeft v es)) n ≡ false

@@ -38,7 +38,7 @@ pub fn carry_out(v: &mut [u8], list: &[u64], count: u64) -> Answer
 }
 
 // Makes a new, empty file with a name: fills the list with the stores that add the name and make the lowest invalid inode valid. Answers
-// Number with the count of words filled.
+// Number with the count of words filled. No file gets the name "." or "..": that is BadName, here and as the new name of link and rename.
 // Refusals: ShortMemory, NoVolume, Damaged, JournalOpen, BadName, Taken, NoInode, DirectoryFull, NoSpace, LastPage.
 // Example: of 16 pages just formatted with 8 inodes create(v, b"A1", list) is Number(46); carried out, "A1" leads to inode 1.
 pub fn create(v: &[u8], name: &[u8], list: &mut [u64]) -> Answer

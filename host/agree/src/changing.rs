@@ -103,6 +103,11 @@ impl Made {
     /// Makes a call of this kind on a volume, with a list of so many words.
     pub fn new(kind: Kind, volume: Vec<u8>, words: u64, random: &mut Random) -> Made {
         let call = kind.call(&standing(&volume), random);
+        Made::of(call, volume, words)
+    }
+
+    /// Makes this call on a volume, with a list of so many words.
+    pub fn of(call: Call, volume: Vec<u8>, words: u64) -> Made {
         let before: Vec<u64> = (9_000..9_000 + words).collect();
         let mut after = before.clone();
         let answer = call.fill(&volume, &mut after);

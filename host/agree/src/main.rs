@@ -16,6 +16,7 @@
 
 mod arguments;
 mod changing;
+mod dot_names;
 mod last_page;
 mod maps;
 mod module;

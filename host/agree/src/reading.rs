@@ -85,7 +85,7 @@ impl Kind {
 
 /// A reading call with its arguments: of find the name, of size the inode, of read the inode, the
 /// offset and the lent buffer, of k-th name k and the lent buffer, of gaps the words of the lent list.
-enum Reading {
+pub enum Reading {
     Find(Vec<u8>),
     Size(u64),
     Read(u64, u64, Vec<u8>),
@@ -98,7 +98,7 @@ enum Reading {
 impl Reading {
     /// The reference's answer, and the lent buffer or list afterwards. The listing answers as the
     /// free count, which has the same refusals.
-    fn make(&self, volume: &[u8]) -> (Answer, Vec<u64>) {
+    pub fn make(&self, volume: &[u8]) -> (Answer, Vec<u64>) {
         let none = Vec::new();
         match self {
             Reading::Find(name) => (find(volume, name), none),
@@ -117,7 +117,7 @@ impl Reading {
 
     /// Asks from the words of the volume; of read and k-th name for the bytes that they fill, of gaps
     /// for the pairs.
-    fn by_words(&self, volume: &[u8], name: &str) -> Sheet {
+    pub fn by_words(&self, volume: &[u8], name: &str) -> Sheet {
         let mut sheet = Sheet::new(name);
         let at = format!("{} {}", volume.len(), sheet.words(volume));
         let (answer, lent) = self.make(volume);

@@ -4,9 +4,9 @@ use crate::last_page::Pages;
 use crate::outcome::Outcome;
 use crate::sheet::Sheet;
 use crate::storing::Spoiled;
-use crate::{changing, last_page, maps, reading, scattered, storing};
+use crate::{changing, dot_names, last_page, maps, reading, scattered, storing};
 use reference::Refusal;
-use samples::Random;
+use samples::{create, link, name_of, rename, unlink, Random};
 
 /// A draw: a sheet with this name, where what was drawn comes to the stratum's outcome.
 type Draw = Box<dyn Fn(&str, &mut Random) -> Option<Sheet>>;
@@ -78,6 +78,7 @@ pub fn strata() -> Vec<Stratum> {
     all.extend(of_scattered());
     all.extend(of_last_page());
     all.extend(of_reading());
+    all.extend(of_dot_names());
     all.extend(of_storing());
     all.extend(of_cuts());
     all.extend(of_maps());
@@ -214,6 +215,48 @@ fn of_reading() -> Vec<Stratum> {
     }
     let longer = Stratum::new("volume-list", Outcome::Refused(2), reading::long_listing);
     all.push(longer.with("longer"));
+    all
+}
+
+/// Calls with the names "." and "..", and with names like these, which are names as any other. Create,
+/// link and rename give "." and ".." to no file: 5 comes before 6, 7 and "nothing changes". Where they
+/// stand the volume is accepted, and they are found, listed and taken away.
+fn of_dot_names() -> Vec<Stratum> {
+    use reading::{Kind, Reading};
+    use Outcome::{Done, Refused};
+    let both: &'static [&[u8]] = &[b".", b".."];
+    let four: &'static [&[u8]] = &[b".", b"..", b"...", b".a"];
+    let mut all = Vec::new();
+    for (call, standing, outcome, detail) in [
+        (create(b"."), &both[1..], Refused(5), "absent dot name"),
+        (create(b".."), both, Refused(5), "standing dot name"),
+        (create(b"..."), both, Done, "three dots"),
+        (create(b".a"), both, Done, "dot and letter"),
+        (link(b"a", b".."), four, Refused(5), "absent to standing"),
+        (link(b".", b"..."), both, Done, "dot name"),
+        (unlink(b".."), four, Done, "dot name"),
+        (rename(b".", b"."), four, Refused(5), "to itself"),
+        (rename(b"a", b"."), &both[1..], Refused(5), "both absent"),
+        (rename(b".", b"a"), four, Done, "dot name"),
+        (rename(b"..", b"..."), four, Done, "over three dots"),
+    ] {
+        let name = name_of(&call);
+        let draw = move |name: &str, random: &mut Random| {
+            dot_names::changing(&call, standing, outcome, name, random)
+        };
+        all.push(Stratum::new(name, outcome, draw).with(detail));
+    }
+    for (kind, call, standing) in [
+        (Kind::Find, Reading::Find(b".".to_vec()), four),
+        (Kind::KthName, Reading::KthName(1, vec![7; 33]), both),
+        (Kind::FreeCount, Reading::FreeCount, four),
+        (Kind::Listing, Reading::Listing, four),
+    ] {
+        let draw = move |name: &str, random: &mut Random| {
+            dot_names::reading(&call, standing, name, random)
+        };
+        all.push(Stratum::new(kind.told().0, Done, draw).with("dot names"));
+    }
     all
 }
 

@@ -8,9 +8,9 @@ use crate::outcome::Outcome;
 use reference::layout::{set_word, word};
 use reference::{cut, format, free_count, groups, land, Call};
 use samples::{
-    any_call, any_number, change_live_word, clean, create, entry_add, filled, flip_live_bit,
-    formatted, headed_noise, live_words, made_up_sized, map_of, put_log, random_cut, rename, run,
-    set_size, with_free_pages, write, FewFree, Random,
+    any_call, any_number, change_live_word, clean, create, entry_add, entry_remove, filled,
+    flip_live_bit, formatted, headed_noise, live_words, made_up_sized, map_of, put_log, random_cut,
+    rename, run, set_size, with_free_pages, write, FewFree, Random,
 };
 
 /// A volume on which a call may well come to this.
@@ -218,6 +218,22 @@ pub fn with_pages_more(volume: &[u8], count: u64) -> Vec<u8> {
     longer.resize(volume.len() + 512 * count as usize, 0);
     set_word(&mut longer, 0, word(volume, 0) + count);
     longer
+}
+
+/// A volume on which these names stand, up to five, also such as no call gives to a file. Some of them
+/// may lead to one file; one was removed and added again.
+pub fn with_names(names: &[&[u8]], random: &mut Random) -> Vec<u8> {
+    let mut volume = formatted(16, 8);
+    let mut adds = Vec::new();
+    for name in names {
+        let inode = random.between(1, 3);
+        adds.push(entry_add(inode, name));
+        put_log(&mut volume, inode, &[], &[]);
+    }
+    let again = random.below(names.len() as u64) as usize;
+    let entries = [&adds[..], &[entry_remove(names[again]), adds[again]]].concat();
+    put_log(&mut volume, 0, &[2], &entries);
+    volume
 }
 
 /// A volume whose free pages lie in pieces, so that a write may find no run. The file "a" has data pages; in every

@@ -92,7 +92,8 @@ fn with_names(
 /// Answers the count of words filled. The refusals are 1 (short memory: a list under 4,096 words),
 /// 2 (no volume), 3 (damaged), 4 (journal open), 5 (bad name), 7 (taken), 10 (no inode), 11
 /// (directory full), 12 (no space) and 15 (last page: the directory's log would take the last free
-/// one).
+/// one). No file gets the name "." or "..": that is 5, here and as the new name of [`link`] and
+/// [`rename`].
 ///
 /// ```
 /// use calls::{carry_out, create, find, format, Refusal};
@@ -107,6 +108,7 @@ fn with_names(
 /// carry_out(&mut volume, &list, count)?;
 /// assert_eq!(find(&volume, b"A1"), Ok(1));
 /// assert_eq!(create(&volume, b"A1", &mut list), Err(Refusal::Taken));
+/// assert_eq!(create(&volume, b".", &mut list), Err(Refusal::BadName));
 /// # Ok::<(), Refusal>(())
 /// ```
 pub fn create(volume: &[u8], name: &[u8], list: &mut [u64]) -> Answer {

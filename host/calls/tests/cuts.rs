@@ -10,8 +10,9 @@ use compiled::fill;
 use reference::layout::set_word;
 use reference::{groups, judge, land, map_after, Call, FileMap, Store};
 use samples::{
-    any_call, appended_entries, clean, create, formatted, in_pieces, link, map_of, marked_list,
-    numbered, random_cut, rename, sample, set_size, text, unlink, write, Random,
+    any_call, appended_entries, clean, create, formatted, give_name, in_pieces, link, map_of,
+    marked_list, numbered, random_cut, rename, sample, set_size, text, unlink, write, Random,
+    DOT_NAMES,
 };
 
 /// The most stores of a group of which every set is tried.
@@ -213,6 +214,31 @@ fn each_call() {
     assert!(counts.before > 4_000 && counts.after > 50, "{counts:?}");
     assert!(counts.open > 100 && counts.recoveries > 500, "{counts:?}");
     assert!(counts.whole > 100 && counts.went_on > 500, "{counts:?}");
+}
+
+/// Calls that take the names "." and ".." away or keep them, on volumes that hold these.
+#[test]
+fn names_of_full_stops() {
+    let mut random = Random::new(105);
+    let mut counts = Counts::default();
+    let mut volume = sample();
+    for (old, new) in [b"A1", b"B2"].into_iter().zip(DOT_NAMES) {
+        give_name(&mut volume, old, new);
+    }
+    for call in [
+        unlink(b"."),
+        unlink(b".."),
+        rename(b".", b"C3"),
+        rename(b"..", b"..."),
+        link(b".", b"C3"),
+        create(b".a"),
+        write(1, 100, b"text"),
+        clean(0),
+    ] {
+        explore(&mut random, &volume, &call, &mut counts);
+    }
+    assert!(counts.before > 1_000 && counts.after > 6, "{counts:?}");
+    assert!(counts.open > 20 && counts.recoveries > 100, "{counts:?}");
 }
 
 /// Random calls on small volumes, each explored before it lands or is cut for good.

@@ -11,14 +11,24 @@
 //!   host has room.
 //! - Refusal 6 for an inode: the volume has no open files, so a file is named by its inode, and one without a
 //!   name is gone. On the host the file is opened by one of its names for the call alone.
-//! - "." and ".." are names like others on a volume, and are left out here.
 //! - Clean and recover have no counterpart: the host's folder stays as it is, and so must the map.
+//!
+//! "." and ".." as create's name, or as the new name of link or rename, are refused by both (order 5 of document
+//! 02): with 5 here; there open and link find the name taken, and rename gives EINVAL, as POSIX has it, or EBUSY, as
+//! Linux does for every file system.
+//!
+//! Document 02 is wider than POSIX in one place: on a volume that already holds "." or "..", it is a file's name, and
+//! can be found, linked from, unlinked and renamed away. On the host it is a folder's, and these calls are refused.
 
 mod compiled;
 
 use compiled::fill;
-use reference::{judge, Call, Refusal};
-use samples::{any_call, appended_entries, map_of, marked_list, scattered, Random};
+use reference::layout::allowed_name;
+use reference::{judge, Answer, Call, FileMap, Refusal};
+use samples::{
+    any_call, any_call_with_dots, appended_entries, create, done, formatted, give_name,
+    gives_dot_name, link, map_of, marked_list, rename, scattered, unlink, write, Random, DOT_NAMES,
+};
 use std::collections::{BTreeMap, BTreeSet};
 use std::ffi::OsStr;
 use std::fs::{self, OpenOptions};
@@ -130,12 +140,24 @@ fn has_inode(call: &Call) -> bool {
     )
 }
 
-/// The host's error for a refusal that POSIX has too; none where document 01 is narrower.
-fn expected_error(call: &Call, refusal: Refusal) -> Option<io::ErrorKind> {
+/// The host's errors for a rename from or to "." or "..".
+const BUSY: &[io::ErrorKind] = &[io::ErrorKind::InvalidInput, io::ErrorKind::ResourceBusy];
+
+/// The host's errors for a refusal that POSIX has too; none where document 01 is narrower.
+fn expected_errors(call: &Call, refusal: Refusal) -> &'static [io::ErrorKind] {
     match refusal {
-        Refusal::NotThere if !has_inode(call) => Some(io::ErrorKind::NotFound),
-        Refusal::Taken => Some(io::ErrorKind::AlreadyExists),
-        _ => None,
+        Refusal::NotThere if !has_inode(call) => &[io::ErrorKind::NotFound],
+        Refusal::Taken => &[io::ErrorKind::AlreadyExists],
+        Refusal::BadName if gives_dot_name(call) => match call {
+            Call::Create { .. } => &[io::ErrorKind::AlreadyExists],
+            // POSIX leaves open which of two errors comes first: the old name may be absent too
+            Call::Link { old, .. } if allowed_name(old) => {
+                &[io::ErrorKind::AlreadyExists, io::ErrorKind::NotFound]
+            }
+            Call::Rename { old, .. } if allowed_name(old) => BUSY,
+            _ => &[],
+        },
+        _ => &[],
     }
 }
 
@@ -145,6 +167,8 @@ struct Counts {
     done: u64,
     both_refused: u64,
     narrower: BTreeMap<u64, u64>,
+    /// Calls that would have given a file the name "." or "..", of those that both refused.
+    dot_names: u64,
     /// Writes that were done in several stretches of pages.
     scattered: u64,
 }
@@ -168,27 +192,31 @@ fn on_both(folder: &Folder, volume: &mut [u8], call: &Call, counts: &mut Counts)
                 counts.scattered += u64::from(entries > 1);
             }
         }
-        Err(refusal) => match expected_error(call, refusal) {
-            Some(kind) => {
-                let error = on_host(folder, call, name_of).map_err(|error| error.kind());
-                assert_eq!(error, Err(kind), "{call:?}");
+        Err(refusal) => match expected_errors(call, refusal) {
+            [] => *counts.narrower.entry(refusal.number()).or_default() += 1,
+            kinds => {
+                let error = on_host(folder, call, name_of).expect_err("the host refuses it too");
+                assert!(kinds.contains(&error.kind()), "{call:?}: {error}");
                 counts.both_refused += 1;
+                counts.dot_names += u64::from(gives_dot_name(call));
             }
-            None => *counts.narrower.entry(refusal.number()).or_default() += 1,
         },
     }
     let seen = Seen::on_host(&folder.0).expect("the folder can be read");
     assert_eq!(Seen::on_volume(volume), Ok(seen), "{call:?}");
 }
 
+/// Draws a call on a volume with so many inodes and this map.
+type Draw = fn(&mut Random, u64, &FileMap) -> Call;
+
 /// So many random calls on a volume and in a folder.
-fn history(seed: u64, pages: u64, inodes: u64, length: u64, counts: &mut Counts) {
+fn history(seed: u64, pages: u64, inodes: u64, length: u64, draw: Draw, counts: &mut Counts) {
     let mut random = Random::new(seed);
     let folder = Folder::new(seed);
     let mut volume = random.bytes(pages as usize * 512);
     calls::format(&mut volume, pages, inodes).expect("the sizes are allowed");
     for _ in 0..length {
-        let call = any_call(&mut random, inodes, &map_of(&volume));
+        let call = draw(&mut random, inodes, &map_of(&volume));
         on_both(&folder, &mut volume, &call, counts);
     }
     judge(&volume).expect("the volume is accepted");
@@ -217,10 +245,11 @@ fn the_host_does_the_same() {
             16 + 12 * (seed % 10),
             8 + 8 * (seed % 3),
             150,
+            any_call,
             &mut counts,
         );
     }
-    history(30, 1_000, 64, 400, &mut counts);
+    history(30, 1_000, 64, 400, any_call, &mut counts);
     assert!(
         counts.done > 2_500 && counts.both_refused > 300,
         "{counts:?}"
@@ -248,4 +277,90 @@ fn the_host_does_the_same_as_scattered_writes() {
         }
     }
     assert!(counts.done > 1_000 && counts.scattered > 100, "{counts:?}");
+}
+
+/// Random calls of which many would give a file the name "." or "..", or one like these.
+#[test]
+fn the_host_refuses_the_same_names() {
+    let mut counts = Counts::default();
+    for seed in 2_000..2_020 {
+        history(seed, 60, 16, 100, any_call_with_dots, &mut counts);
+    }
+    assert!(counts.done > 700 && counts.dot_names > 100, "{counts:?}");
+}
+
+/// A volume and a folder with the file "a".
+fn with_one_file(seed: u64) -> (Vec<u8>, Folder) {
+    let mut volume = formatted(16, 8);
+    for call in [create(b"a"), write(1, 0, b"text")] {
+        done(&mut volume, &call);
+    }
+    let folder = folder_of(seed, &volume).expect("the host has room");
+    (volume, folder)
+}
+
+/// Checks what a call answers compiled, and that the host refuses it with one of these errors.
+fn check_answers(
+    volume: &[u8],
+    folder: &Folder,
+    call: &Call,
+    expected: Answer,
+    kinds: &[io::ErrorKind],
+) {
+    let answer = fill(call, volume, &mut marked_list(4_096));
+    assert_eq!(answer, expected, "{call:?}");
+    let error = on_host(folder, call, |_| folder.path(b"a")).expect_err("the host refuses it");
+    assert!(kinds.contains(&error.kind()), "{call:?}: {error}");
+}
+
+/// "." and ".." as new names: 5 here, an error there, and nothing moves. "..." and ".a" are names like others.
+#[test]
+fn new_names_of_full_stops() {
+    let bad_name = Err(Refusal::BadName);
+    let taken = &[io::ErrorKind::AlreadyExists][..];
+    for (name, number) in DOT_NAMES.into_iter().zip(3_000..) {
+        let (volume, folder) = with_one_file(number);
+        for (call, kinds) in [
+            (create(name), taken),
+            (link(b"a", name), taken),
+            (rename(b"a", name), BUSY),
+            (rename(name, name), BUSY),
+        ] {
+            check_answers(&volume, &folder, &call, bad_name, kinds);
+            let seen = Seen::on_host(&folder.0).expect("the folder can be read");
+            assert_eq!(Seen::on_volume(&volume), Ok(seen), "{call:?}");
+        }
+    }
+    let mut counts = Counts::default();
+    for (name, number) in [&b"..."[..], b".a"].into_iter().zip(3_010..) {
+        let (mut volume, folder) = with_one_file(number);
+        for call in [
+            create(name),
+            unlink(name),
+            link(b"a", name),
+            unlink(name),
+            rename(b"a", name),
+            rename(name, b"a"),
+        ] {
+            on_both(&folder, &mut volume, &call, &mut counts);
+        }
+    }
+    assert_eq!((counts.done, counts.both_refused), (12, 0), "{counts:?}");
+}
+
+/// A volume that holds "." or "..": it can be linked from, unlinked and renamed away, and the host refuses to.
+#[test]
+fn old_names_of_full_stops() {
+    let no_file = &[io::ErrorKind::PermissionDenied, io::ErrorKind::IsADirectory][..];
+    for (name, number) in DOT_NAMES.into_iter().zip(3_020..) {
+        let (mut volume, folder) = with_one_file(number);
+        give_name(&mut volume, b"a", name);
+        for (call, words, kinds) in [
+            (link(name, b"b"), 22, no_file),
+            (unlink(name), 40, no_file),
+            (rename(name, b"b"), 38, BUSY),
+        ] {
+            check_answers(&volume, &folder, &call, Ok(words), kinds);
+        }
+    }
 }

@@ -26,18 +26,19 @@ pub enum Failure {
         free: u64,
         /// The free pages that are kept, at the least.
         kept: u64,
-        /// The volume's path, as shown.
+        /// The volume's path, as typed.
         volume: String,
     },
     /// The command line is wrong, whatever the files hold. Exit status 2.
     Use(String),
-    /// A file of the host is missing, in the way, locked or not fit, or reading or writing failed. Exit status 3.
+    /// A file of the host is missing, in the way, locked, not fit or cannot be made, or reading or writing failed.
+    /// Exit status 3.
     Host(String),
     /// A rehearsed power cut. Exit status 4.
     Cut {
         /// The group that was cut, from 1.
         group: u64,
-        /// The volume's path, as shown.
+        /// The volume's path, as typed.
         volume: String,
     },
     /// Everything is said already; the exit status.
@@ -104,7 +105,7 @@ pub fn refused(refusal: Refusal) -> String {
     format!("refused {} ({refusal})", refusal.number())
 }
 
-/// What to do about a refusal; `volume` is the volume's path as shown.
+/// What to do about a refusal; `volume` is the volume's path as typed.
 ///
 /// ```
 /// use office::failure::advice;

@@ -181,6 +181,12 @@ impl Sources {
     }
 }
 
+/// Whether a name stands for a folder, wherever it is used: "." for the folder itself, ".." for the one above it.
+/// No file of the host can have it, and no file of a volume can get it.
+pub fn stands_for_folder(name: &[u8]) -> bool {
+    matches!(name, b"." | b"..")
+}
+
 /// What stands in the way of a file that is to be written; none if nothing does.
 ///
 /// A regular file is in the way unless it may be replaced (`force`); a folder, a pipe, a device and the volume's own

@@ -50,8 +50,8 @@ impl Choice {
 const EXIT: &str = "\
 Exit status: 0 done; 1 refused by the volume or for the free pages that are kept,
 or check found it not accepted; 2 the command line is wrong; 3 a file of the host
-is missing, in the way, locked or cannot be put, or reading or writing failed;
-4 a rehearsed power cut.
+is missing, in the way, locked, cannot be put or cannot be made, or reading or
+writing failed; 4 a rehearsed power cut.
 ";
 
 /// The help of the tool: a usage line for each command, and the exit statuses.

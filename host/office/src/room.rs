@@ -213,7 +213,7 @@ fn check_kept(store: &Store, change: &Change, before: u64, plan: &Plan) -> Outco
         what: change.what.to_owned(),
         free,
         kept,
-        volume: store.shown(),
+        volume: store.typed(),
     })
 }
 
@@ -280,12 +280,12 @@ pub fn is_stuck(volume: &[u8]) -> bool {
         })
 }
 
-/// What to do about a volume on which nothing makes room; `shown` is its path as shown.
-pub fn way_out(volume: &[u8], shown: &str) -> String {
+/// What to do about a volume on which nothing makes room; `typed` is its path as typed.
+pub fn way_out(volume: &[u8], typed: &str) -> String {
     let (pages, inodes) = sizes_for_all(volume);
     format!(
         "no page is left with which a name could be removed or a log cleaned, but every file \
-         can be read: 'office get {shown} --all FOLDER' copies them all; \
+         can be read: 'office get {typed} --all FOLDER' copies them all; \
          'office format NEW --pages {pages} --inodes {inodes}' makes a new volume, and \
          'office put NEW FOLDER' puts them there"
     )

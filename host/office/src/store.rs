@@ -2,9 +2,9 @@
 
 use crate::disk::{land_group, write_stores, Disk};
 use crate::failure::{advice, Failure, Outcome};
-use crate::files::is_file_of;
+use crate::files::{is_file_of, stands_for_folder};
 use crate::room::{is_stuck, way_out};
-use crate::text::{complain, shown_path};
+use crate::text::{complain, shown_path, typed_path};
 use calls::layout::{LIST_WORDS, NAME_BYTES, VOLUME_LIMIT};
 use calls::list::{groups, Store as WordStore};
 use refusal::{Answer, Refusal};
@@ -89,12 +89,17 @@ impl Store {
         shown_path(&self.path)
     }
 
+    /// The volume's path as a command line has it that is to be typed.
+    pub fn typed(&self) -> String {
+        typed_path(&self.path)
+    }
+
     /// The failure of a command whose call was refused; `what` is what the call was about.
     ///
     /// Refusals of the volume itself are said of the volume. Where nothing makes room any more, the
     /// advice is not to remove files, but the way out.
     pub fn refused(&self, what: &str, refusal: Refusal) -> Failure {
-        let volume = self.shown();
+        let volume = self.typed();
         let advice = match refusal {
             Refusal::Taken
             | Refusal::NoInode
@@ -108,13 +113,28 @@ impl Store {
             _ => advice(refusal, &volume),
         };
         let what = match refusal {
-            Refusal::NoVolume | Refusal::Damaged | Refusal::JournalOpen => volume,
+            Refusal::NoVolume | Refusal::Damaged | Refusal::JournalOpen => self.shown(),
             _ => what.to_owned(),
         };
         Failure::Refused {
             what,
             refusal,
             advice,
+        }
+    }
+
+    /// The failure of a command whose call was to give a file the name `new` and was refused (see
+    /// [`Store::refused`]).
+    pub fn refused_new(&self, what: &str, new: &[u8], refusal: Refusal) -> Failure {
+        if refusal != Refusal::BadName || !stands_for_folder(new) {
+            return self.refused(what, refusal);
+        }
+        Failure::Refused {
+            what: what.to_owned(),
+            refusal,
+            advice: "\".\" and \"..\" stand for a folder and the one above it, \
+                     and no file can get such a name"
+                .into(),
         }
     }
 
@@ -182,7 +202,7 @@ impl Store {
             write_stores(&self.file, &kept).map_err(|error| self.broken(error))?;
             return Err(Failure::Cut {
                 group: number,
-                volume: self.shown(),
+                volume: self.typed(),
             });
         }
         land_group(&self.file, group).map_err(|error| self.broken(error))?;
@@ -192,9 +212,9 @@ impl Store {
 
     /// The failure of a command that could not write.
     fn broken(&self, error: io::Error) -> Failure {
-        let volume = self.shown();
+        let (volume, typed) = (self.shown(), self.typed());
         Failure::Host(format!(
-            "{volume}: {error}; the volume may hold part of the change; run 'office recover {volume}'"
+            "{volume}: {error}; the volume may hold part of the change; run 'office recover {typed}'"
         ))
     }
 

@@ -52,6 +52,30 @@ pub fn shown_path(path: impl AsRef<OsStr>) -> String {
     shown_name(path.as_ref().as_bytes())
 }
 
+/// A path of the host as a shell takes it, for a command line that is to be typed: a backslash before each
+/// character that has a meaning there, and `./` before a path that would be taken for an option.
+///
+/// A path with bytes that only [`shown_path`] can show cannot be typed.
+///
+/// ```
+/// use office::text::typed_path;
+///
+/// assert_eq!(typed_path("days/2025-07_a.vol"), "days/2025-07_a.vol");
+/// assert_eq!(typed_path("Käse 1$.vol"), "Käse\\ 1\\$.vol");
+/// assert_eq!(typed_path("-v"), "./-v");
+/// ```
+pub fn typed_path(path: impl AsRef<OsStr>) -> String {
+    let shown = shown_path(path);
+    let mut text = String::from(if shown.starts_with('-') { "./" } else { "" });
+    for letter in shown.chars() {
+        if letter.is_ascii_punctuation() && !"-_./,:+@%".contains(letter) || letter == ' ' {
+            text.push('\\');
+        }
+        text.push(letter);
+    }
+    text
+}
+
 /// A number with commas between its thousands.
 ///
 /// ```

@@ -3,11 +3,11 @@
 mod tool;
 
 use office::commands::COMMANDS;
-use samples::{create, done, formatted, map_of, numbered, text, write};
+use samples::{create, done, formatted, map_of, numbered, text};
 use std::fs::{self, File};
 use std::io::Read;
 use std::process::Command;
-use tool::{files, Folder};
+use tool::{each_fails, files, Folder};
 
 /// A folder with the files "a" and "b" and a volume of 16 pages and 8 inodes that holds "a" (4 bytes).
 fn with_file(test: &str) -> Folder {
@@ -16,18 +16,6 @@ fn with_file(test: &str) -> Folder {
     folder.write("b", b"!");
     folder.done(&["put", "v", "a"]);
     folder
-}
-
-/// Runs commands that must end with a status and a line, and leave the volume as it was.
-fn each_fails(folder: &Folder, status: i32, cases: &[(&[&str], &str)]) {
-    for (command, line) in cases {
-        let before = fs::read(folder.join("v")).ok();
-        let ran = folder.office(command);
-        let expected = format!("office: {line}\n");
-        assert_eq!((ran.status, ran.err), (status, expected), "{command:?}");
-        assert_eq!(ran.out, b"", "{command:?}");
-        assert!(fs::read(folder.join("v")).ok() == before, "{command:?}");
-    }
 }
 
 #[test]
@@ -341,33 +329,6 @@ fn sources_that_cannot_be_put() {
                  office: put: nothing was put\n";
     assert_eq!((ran.status, ran.err.as_str()), (3, lines));
     assert!(folder.read("v") == before);
-}
-
-#[test]
-fn names_that_the_host_cannot_have() {
-    let folder = Folder::new("host-names");
-    let mut volume = formatted(40, 8);
-    for (name, inode) in [(b".".as_slice(), 1), (b"..", 2), (b"-", 3), (b"a", 4)] {
-        done(&mut volume, &create(name));
-        done(&mut volume, &write(inode, 0, name));
-    }
-    folder.write("v", &volume);
-    let unfit = "cannot be the name of a file of the host; get NAME DEST gives it another";
-    for name in [".", "..", "-"] {
-        each_fails(
-            &folder,
-            3,
-            &[(&["get", "v", name], &format!("{name}: {unfit}"))],
-        );
-        folder.done(&["get", "v", name, "to", "--force"]);
-        assert_eq!(folder.read("to"), name.as_bytes());
-    }
-    let lines =
-        format!("office: .: {unfit}\noffice: ..: {unfit}\noffice: get: nothing was copied\n");
-    folder.fails(&["get", "v", "--all", "all"], 3, &lines);
-    folder.done(&["rm", "v", ".", ".."]);
-    folder.done(&["get", "v", "--all", "all"]);
-    assert_eq!(folder.names("all"), ["-", "a"]);
 }
 
 #[test]

@@ -10,8 +10,8 @@ use office::room::{is_stuck, kept};
 use reference::random::Random;
 use reference::{judge, File, FileMap, Refusal};
 use samples::{
-    clean, create, done, formatted, link, made_up, map_of, rename, run, set_size, text, unlink,
-    used_volume, write,
+    clean, create, done, formatted, give_name, link, made_up, map_of, rename, run, set_size, text,
+    unlink, used_volume, write,
 };
 use tool::{files, with_long_logs, Folder, Ran};
 
@@ -594,6 +594,38 @@ fn a_stuck_volume_and_its_way_out() {
         assert_eq!(bytes_by_name(&new), bytes_by_name(&folder.map()));
         assert_eq!(new.names.len(), usize::from(count) + 1);
     }
+}
+
+/// The first command of the way out leaves a file named "." out and says how it gets into the folder
+/// too; so the new volume has every file.
+#[test]
+fn the_way_out_of_a_volume_with_a_dot_name() {
+    let folder = Folder::new("stuck-dot");
+    let mut volume = stuck(3, 6_000);
+    give_name(&mut volume, b"b", b".");
+    assert!(is_stuck(&volume));
+    folder.write("v", &volume);
+    let check = String::from_utf8(folder.done(&["check", "v"])).expect("text");
+    let mut commands = quoted(&check);
+    for command in &mut commands {
+        replace(command, "FOLDER", "all");
+        replace(command, "NEW", "new");
+    }
+    let ran = folder.office(&commands[0][1..]);
+    assert_eq!(
+        (ran.status, ran.out),
+        (3, b"3 files copied, 12,000 bytes\n".to_vec())
+    );
+    for mut command in quoted(&ran.err) {
+        replace(&mut command, "all/DEST", "all/dot");
+        folder.done(&command[1..]);
+    }
+    for command in &commands[1..] {
+        folder.done(&command[1..]);
+    }
+    give_name(&mut volume, b".", b"dot");
+    let new = map_of(&folder.read("new"));
+    assert_eq!(bytes_by_name(&new), bytes_by_name(&map_of(&volume)));
 }
 
 /// Every command that wants room on the stuck volume "v" says the way out of it; answers that.

@@ -6,9 +6,9 @@
 use crate::accept::{judge, judge_closed, Volume};
 use crate::commit::{append, commit, commit_journalled, data_stores, lay};
 use crate::layout::{
-    allowed_name, head_word, set_word, tail_word, valid_word, Sizes, DEQUEUE_WORD, DIRECTORY,
-    FORMAT_WORD, INODES_WORD, LIST_WORDS, NAME_LIMIT, PAGES_WORD, PAGE_BYTES, SIZE_LIMIT,
-    WRITE_LIMIT,
+    allowed_name, allowed_new_name, head_word, set_word, tail_word, valid_word, Sizes,
+    DEQUEUE_WORD, DIRECTORY, FORMAT_WORD, INODES_WORD, LIST_WORDS, NAME_LIMIT, PAGES_WORD,
+    PAGE_BYTES, SIZE_LIMIT, WRITE_LIMIT,
 };
 use crate::log::{Entry, File};
 use crate::space::Space;
@@ -40,7 +40,7 @@ pub fn format(volume: &mut [u8], pages: u64, inodes: u64) -> Result<(), Refusal>
 
 /// Create: adds a name with the lowest invalid inode, an empty file.
 ///
-/// The refusals are 1, 2, 3, 4, 5, 7, 10, 11, 12 and 15.
+/// The refusals are 1, 2, 3, 4, 5 ([`allowed_new_name`]), 7, 10, 11, 12 and 15.
 ///
 /// ```
 /// use reference::{carry_out, create, find, format, Refusal};
@@ -55,11 +55,12 @@ pub fn format(volume: &mut [u8], pages: u64, inodes: u64) -> Result<(), Refusal>
 /// carry_out(&mut volume, &list, count)?;
 /// assert_eq!(find(&volume, b"A1"), Ok(1));
 /// assert_eq!(create(&volume, b"A1", &mut list), Err(Refusal::Taken));
+/// assert_eq!(create(&volume, b".", &mut list), Err(Refusal::BadName));
 /// # Ok::<(), Refusal>(())
 /// ```
 pub fn create(volume: &[u8], name: &[u8], list: &mut [u64]) -> Answer {
     let volume = judge_for_change(volume, list)?;
-    check_name(name)?;
+    check_new_name(name)?;
     check_absent(&volume, name)?;
     let inode = volume.lowest_invalid_inode().ok_or(Refusal::NoInode)?;
     check_room_for_name(&volume)?;
@@ -77,11 +78,11 @@ pub fn create(volume: &[u8], name: &[u8], list: &mut [u64]) -> Answer {
 
 /// Link: adds the new name with the old one's inode.
 ///
-/// The refusals are 1, 2, 3, 4, 5, 6, 7, 11, 12 and 15.
+/// The refusals are 1, 2, 3, 4, 5 (the new name: [`allowed_new_name`]), 6, 7, 11, 12 and 15.
 pub fn link(volume: &[u8], old: &[u8], new: &[u8], list: &mut [u64]) -> Answer {
     let volume = judge_for_change(volume, list)?;
     check_name(old)?;
-    check_name(new)?;
+    check_new_name(new)?;
     let inode = find_name(&volume, old)?;
     check_absent(&volume, new)?;
     check_room_for_name(&volume)?;
@@ -105,11 +106,26 @@ pub fn unlink(volume: &[u8], name: &[u8], list: &mut [u64]) -> Answer {
 
 /// Rename: removes the old name and adds the new with its inode; a file left without a name goes.
 ///
-/// If both names lead to one inode, nothing changes. The refusals are 1, 2, 3, 4, 5, 6 and 12.
+/// If both names lead to one inode, nothing changes. The refusals are 1, 2, 3, 4, 5 (the new name:
+/// [`allowed_new_name`]), 6 and 12. 5 comes before "nothing changes", so that a standing "." can be
+/// renamed away, but not to itself.
+///
+/// ```
+/// use reference::{rename, Refusal};
+///
+/// let mut volume = samples::sample();
+/// let mut list = vec![0; 4096];
+/// assert_eq!(rename(&volume, b"A1", b"A1", &mut list), Ok(0));
+/// assert_eq!(rename(&volume, b"A1", b".", &mut list), Err(Refusal::BadName));
+///
+/// samples::give_name(&mut volume, b"A1", b".");
+/// assert_eq!(rename(&volume, b".", b".", &mut list), Err(Refusal::BadName));
+/// assert_eq!(rename(&volume, b".", b"A1", &mut list), Ok(38));
+/// ```
 pub fn rename(volume: &[u8], old: &[u8], new: &[u8], list: &mut [u64]) -> Answer {
     let volume = judge_for_change(volume, list)?;
     check_name(old)?;
-    check_name(new)?;
+    check_new_name(new)?;
     let inode = find_name(&volume, old)?;
     let replaced = volume.inode_of(new);
     if replaced == Some(inode) {
@@ -270,8 +286,17 @@ fn check_list(list: &[u64]) -> Result<(), Refusal> {
     Ok(())
 }
 
+/// Judges a name that a call looks for.
 pub(crate) fn check_name(name: &[u8]) -> Result<(), Refusal> {
     if !allowed_name(name) {
+        return Err(Refusal::BadName);
+    }
+    Ok(())
+}
+
+/// Judges a name that a call would give to a file.
+fn check_new_name(name: &[u8]) -> Result<(), Refusal> {
+    if !allowed_new_name(name) {
         return Err(Refusal::BadName);
     }
     Ok(())

@@ -77,9 +77,28 @@ fn byte_of_word(index: u64) -> Option<usize> {
     usize::try_from(index.checked_mul(8)?).ok()
 }
 
-/// Whether a name is allowed: 1 to 32 bytes, none of them 0 or 47 ("/").
+/// Whether a name is allowed: 1 to 32 bytes, none of them 0 or 47 ("/"). Such a name may stand on a
+/// volume, and may be looked for.
 pub fn allowed_name(name: &[u8]) -> bool {
     (1..=NAME_BYTES).contains(&name.len()) && name.iter().all(|&byte| allowed_byte(byte))
+}
+
+/// Whether a name may be given to a file: an allowed one that is not kept for the directory itself
+/// or its parent.
+///
+/// Order 5: "POSIX keeps the names "." and ".." for the directory itself and its parent. Create,
+/// link's new name and rename's new name shall no longer accept them."
+///
+/// ```
+/// use reference::layout::{allowed_name, allowed_new_name};
+///
+/// assert!(allowed_name(b".") && !allowed_new_name(b"."));
+/// assert!(allowed_name(b"..") && !allowed_new_name(b".."));
+/// assert!(allowed_new_name(b"...") && allowed_new_name(b".a"));
+/// assert!(!allowed_new_name(b"") && !allowed_new_name(b"./"));
+/// ```
+pub fn allowed_new_name(name: &[u8]) -> bool {
+    allowed_name(name) && !matches!(name, b"." | b"..")
 }
 
 /// Whether a name may have this byte.

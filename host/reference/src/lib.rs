@@ -1,5 +1,5 @@
-//! A plain reference implementation of the file store that document 01 describes, with orders 1, 3
-//! and 4 of document 02 (order 2 changes no answer).
+//! A plain reference implementation of the file store that document 01 describes, with orders 1, 3,
+//! 4 and 5 of document 02 (order 2 changes no answer).
 //!
 //! It was written from the papers alone, to test other code against. It is meant to be read
 //! top-down: [`layout`] (words, pages, sizes), the journal, the logs, the judgement of a volume and

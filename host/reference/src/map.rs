@@ -2,7 +2,9 @@
 
 use crate::accept::Volume;
 use crate::calls::Call;
-use crate::layout::{allowed_name, DIRECTORY, NAME_LIMIT, SIZE_LIMIT, WRITE_LIMIT};
+use crate::layout::{
+    allowed_name, allowed_new_name, DIRECTORY, NAME_LIMIT, SIZE_LIMIT, WRITE_LIMIT,
+};
 use crate::Refusal;
 use std::collections::BTreeMap;
 
@@ -146,13 +148,13 @@ pub fn refused_by_map(map: &FileMap, inodes: u64, call: &Call) -> Option<Refusal
     let full = map.names.len() >= NAME_LIMIT;
     let applying: &[(bool, Refusal)] = match call {
         Call::Create { name } => &[
-            (!allowed_name(name), Refusal::BadName),
+            (!allowed_new_name(name), Refusal::BadName),
             (stands(name), Refusal::Taken),
             (map.lowest_invalid_inode(inodes).is_none(), Refusal::NoInode),
             (full, Refusal::DirectoryFull),
         ],
         Call::Link { old, new } => &[
-            (!allowed_name(old) || !allowed_name(new), Refusal::BadName),
+            (bad_names(old, new), Refusal::BadName),
             (!stands(old), Refusal::NotThere),
             (stands(new), Refusal::Taken),
             (full, Refusal::DirectoryFull),
@@ -162,7 +164,7 @@ pub fn refused_by_map(map: &FileMap, inodes: u64, call: &Call) -> Option<Refusal
             (!stands(name), Refusal::NotThere),
         ],
         Call::Rename { old, new } => &[
-            (!allowed_name(old) || !allowed_name(new), Refusal::BadName),
+            (bad_names(old, new), Refusal::BadName),
             (!stands(old), Refusal::NotThere),
         ],
         Call::Write {
@@ -185,6 +187,11 @@ pub fn refused_by_map(map: &FileMap, inodes: u64, call: &Call) -> Option<Refusal
         .iter()
         .find(|(applies, _)| *applies)
         .map(|&(_, refusal)| refusal)
+}
+
+/// Whether the old name of a link or rename may not be looked for, or the new one not be given.
+fn bad_names(old: &[u8], new: &[u8]) -> bool {
+    !allowed_name(old) || !allowed_new_name(new)
 }
 
 fn ends_past(offset: u64, length: usize) -> bool {

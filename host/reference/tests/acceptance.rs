@@ -337,6 +337,7 @@ fn names_of_entries() {
         (b"a\0b", false),
         (b"\0", false),
         (b".", true),
+        (b"..", true),
     ];
     for &(name, good) in names {
         let adds = [entry_add(1, b"A1"), entry_add(2, b"B2")];

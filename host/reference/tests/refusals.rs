@@ -269,7 +269,7 @@ fn bad_names() {
         }
         assert_eq!(find(&volume, name), Err(Refusal::BadName));
     }
-    for name in [&[97][..], &[97; 32], b".", b"..", &[46, 48], &[1, 255, 10]] {
+    for name in [&[97][..], &[97; 32], b"...", &[46, 48], &[1, 255, 10]] {
         assert_eq!(filled(&volume, &create(name)).unwrap().len(), 44);
         assert_eq!(filled(&volume, &link(b"A1", name)).unwrap().len(), 22);
         assert_eq!(filled(&volume, &rename(b"A1", name)).unwrap().len(), 38);

@@ -28,7 +28,8 @@ pub enum Refusal {
     Damaged = 3,
     /// 4: the journal is open, for any call but format, recover and carry out.
     JournalOpen = 4,
-    /// 5: a name's length or one of its bytes is not allowed.
+    /// 5: a name's length or one of its bytes is not allowed, or create's name or the new name of
+    /// link or rename is "." or ".." (document 02).
     BadName = 5,
     /// 6: the name is absent, the inode invalid or out of range, or k too large.
     NotThere = 6,

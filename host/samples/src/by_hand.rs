@@ -1,7 +1,7 @@
 //! Volumes and logs made by hand, word by word, without the reference model's own writing.
 
-use reference::format;
-use reference::layout::{head_word, set_word, tail_word, valid_word, word};
+use reference::layout::{head_word, set_word, tail_word, valid_word, word, DIRECTORY};
+use reference::{format, judge, Entry};
 
 /// A formatted volume whose other pages hold old bytes.
 pub fn formatted(pages: u64, inodes: u64) -> Vec<u8> {
@@ -123,6 +123,62 @@ pub fn open_journal(volume: &mut [u8], dequeue: u64, entries: &[(u64, u64)]) {
 pub fn put_entry(volume: &mut [u8], page: u64, place: u64, entry: &[u64; 8]) {
     for (&value, index) in entry.iter().zip(page * 64 + place * 8..) {
         set_word(volume, index, value);
+    }
+}
+
+/// Gives the file of a standing name another one by hand, also one that no call would give.
+///
+/// The name is changed where it stands in the directory's log: in the add that is the only entry
+/// with it. So the list of names keeps its order.
+///
+/// ```
+/// use samples::{give_name, sample};
+///
+/// let mut volume = sample();
+/// give_name(&mut volume, b"A1", b".");
+/// assert_eq!(reference::find(&volume, b"."), Ok(1));
+/// assert_eq!(reference::find(&volume, b"A1"), Err(reference::Refusal::NotThere));
+/// assert_eq!(reference::listing(&volume), b"files 2 free 13\n1 700 .\n2 0 B2\n");
+/// ```
+pub fn give_name(volume: &mut [u8], old: &[u8], new: &[u8]) {
+    let names = standing(volume);
+    assert!(names.iter().all(|(name, _)| name != new), "{new:?} stands");
+    let (first_word, inode) = only_add(volume, old);
+    let entry = entry_add(inode, new);
+    for (&value, index) in entry[2..7].iter().zip(first_word + 2..) {
+        set_word(volume, index, value);
+    }
+    let after = names.into_iter().map(|(name, inode)| match name == old {
+        true => (new.to_vec(), inode),
+        false => (name, inode),
+    });
+    assert_eq!(standing(volume), after.collect::<Vec<_>>());
+}
+
+/// The names that stand on an accepted volume, in list order, each with its inode.
+fn standing(volume: &[u8]) -> Vec<(Vec<u8>, u64)> {
+    let judged = judge(volume).expect("the volume is accepted");
+    let names = judged.names.iter();
+    names.map(|&(name, inode)| (name.to_vec(), inode)).collect()
+}
+
+/// The first word of the only entry of the directory's log with this name, an add, and its inode.
+fn only_add(volume: &[u8], wanted: &[u8]) -> (u64, u64) {
+    let judged = judge(volume).expect("the volume is accepted");
+    let entries = judged.logs[&DIRECTORY].placed(volume);
+    let found: Vec<(u64, Option<u64>)> = entries
+        .filter_map(|placed| {
+            let first_word = placed.page * 64 + 8 * (placed.number as u64 - 1);
+            match Entry::read(placed.bytes, judged.sizes) {
+                Ok(Entry::Add { inode, name }) if name == wanted => Some((first_word, Some(inode))),
+                Ok(Entry::Remove { name }) if name == wanted => Some((first_word, None)),
+                _ => None,
+            }
+        })
+        .collect();
+    match found[..] {
+        [(first_word, Some(inode))] => (first_word, inode),
+        _ => panic!("not one add alone has {wanted:?}: {found:?}"),
     }
 }
 

@@ -45,7 +45,12 @@ impl DirectoryLog {
 
     /// Appends an add.
     pub fn add(&mut self, name: &[u8]) {
-        self.entries.push((name.to_vec(), Some(self.adds % 5 + 1)));
+        self.add_for(name, self.adds % 5 + 1);
+    }
+
+    /// Appends an add that leads to this inode, of 1 to 5.
+    pub fn add_for(&mut self, name: &[u8], inode: u64) {
+        self.entries.push((name.to_vec(), Some(inode)));
         self.adds += 1;
     }
 

@@ -5,7 +5,8 @@
 //! calls and power cuts ([`used_volume`], [`any_call`]), put together at random ([`made_up`]),
 //! damaged ([`change_live_word`], [`flip_live_bit`]), with page numbers past 16 bits
 //! ([`wide_pages()`]), with scattered free pages ([`scattered()`]), with few free pages
-//! ([`last_page()`]), and noise ([`headed_noise`]). What is random comes from a [`Random`] alone,
+//! ([`last_page()`]), with the names "." and ".." ([`dot_names()`]), and noise ([`headed_noise`]).
+//! What is random comes from a [`Random`] alone,
 //! so that a seed gives the same volumes again. Document 01's cases are rows of one table
 //! ([`cases()`]), and volumes are filled and emptied ([`full_handheld()`]), for any library of the
 //! calls.
@@ -27,6 +28,7 @@ mod calls;
 mod cases;
 mod damage;
 mod directory_logs;
+mod dot_names;
 mod full_handheld;
 mod gaps;
 mod last_page;
@@ -38,8 +40,8 @@ mod scattered;
 mod wide_pages;
 
 pub use by_hand::{
-    entry_add, entry_remove, entry_size, entry_write, formatted, long_directory, numbered,
-    open_journal, put_entry, put_log, sample, text, words, zero_page,
+    entry_add, entry_remove, entry_size, entry_write, formatted, give_name, long_directory,
+    numbered, open_journal, put_entry, put_log, sample, text, words, zero_page,
 };
 pub use calls::{
     clean, create, done, filled, link, map_of, marked_list, name_of, rename, run, set_size, unlink,
@@ -52,10 +54,14 @@ pub use directory_logs::{
     nearly_same_names, size_of, varied_name, varied_names, DirectoryLog, MOST_DIFFERENT,
     MOST_ENTRIES, NOWHERE,
 };
+pub use dot_names::{
+    any_call_with_dots, calls_by_name, dot_names, gives_dot_name, standing_dot_names, tried_names,
+    DotNames, DOT_NAMES,
+};
 pub use full_handheld::{check_row, full_handheld, rows_without_a_page, Emptied, Row, HANDHELDS};
 pub use gaps::{volumes_with_gaps, with_free_pages};
 pub use last_page::{few_free_pages, last_page, no_files, FewFree, LastPage};
-pub use made_up::{made_up, made_up_sized};
+pub use made_up::{made_up, made_up_sized, made_up_with_dots};
 pub use noise::headed_noise;
 pub use numbers::{any_name, any_number, NUMBERS};
 pub use random_calls::{any_call, any_calls, random_cut, used_volume};

@@ -2,6 +2,7 @@
 //! middle, unread words that hold any number, journals open or closed.
 
 use crate::by_hand::{entry_add, entry_remove, entry_size, entry_write, numbered, put_log};
+use crate::dot_names::dot_name_or_like;
 use crate::numbers::any_number;
 use reference::layout::{head_word, set_word, tail_word, valid_word, word};
 use reference::random::Random;
@@ -14,6 +15,21 @@ type Words = [u64; 8];
 pub fn made_up(random: &mut Random) -> Vec<u8> {
     let (pages, inodes) = small_sizes(random);
     made_up_sized(random, pages, inodes)
+}
+
+/// A small volume as [`made_up`] puts it together, but half of its names are "." and ".." or names
+/// like these.
+///
+/// ```
+/// use samples::{made_up_with_dots, Random};
+///
+/// let mut random = Random::new(1);
+/// let mut volumes = (0..100).map(|_| made_up_with_dots(&mut random));
+/// assert!(volumes.any(|volume| reference::find(&volume, b".").is_ok()));
+/// ```
+pub fn made_up_with_dots(random: &mut Random) -> Vec<u8> {
+    let (pages, inodes) = small_sizes(random);
+    put_together(random, pages, inodes, true)
 }
 
 /// Sizes of a small volume: page count and inode count.
@@ -35,6 +51,10 @@ fn small_sizes(random: &mut Random) -> (u64, u64) {
 /// A volume of these sizes, put together at random. Most are accepted; in some a page serves twice, a
 /// file has no name or too many stand, or a log leaves pages behind a file's end.
 pub fn made_up_sized(random: &mut Random, pages: u64, inodes: u64) -> Vec<u8> {
+    put_together(random, pages, inodes, false)
+}
+
+fn put_together(random: &mut Random, pages: u64, inodes: u64, dots: bool) -> Vec<u8> {
     let fill = match random.below(3) {
         0 => random.bytes(pages as usize * 512),
         1 => vec![0; pages as usize * 512],
@@ -46,6 +66,7 @@ pub fn made_up_sized(random: &mut Random, pages: u64, inodes: u64) -> Vec<u8> {
         inodes,
         unused: (inodes / 8 + 1..pages).collect(),
         wrong: random.once_in(2),
+        dots,
         random,
     };
     assert_eq!(reference::format(&mut maker.volume, pages, inodes), Ok(()));
@@ -66,6 +87,8 @@ struct Maker<'r> {
     unused: Vec<u64>,
     /// Whether things may be done that break the volume.
     wrong: bool,
+    /// Whether half of the names are dot names or like these. Where not, no number is drawn for it.
+    dots: bool,
 }
 
 impl Maker<'_> {
@@ -326,8 +349,12 @@ impl Maker<'_> {
         entries
     }
 
-    /// A name that is allowed: a numbered one, one letter with at most one other, or any bytes.
+    /// A name that is allowed: a numbered one, one letter with at most one other, or any bytes; or
+    /// a dot name or one like it.
     fn good_name(&mut self, number: u64) -> Vec<u8> {
+        if self.dots && self.random.once_in(2) {
+            return dot_name_or_like(self.random).to_vec();
+        }
         let length = match self.random.below(4) {
             0 => 32,
             1 => self.random.between(1, 32) as usize,

@@ -2,7 +2,7 @@
 use Rattle.model.proofs.Prelude.{_≡_, refl, sym, _∙_, ℕ, _≤_, _<_, Bool, true, false, _&&_, List, [], _∷_, none, some, arith, length, eqb, eqb-true, eqb-false, leb-false, eq-eqb, ne-eqb, not-false, not-true}
 use Rattle.model.specs.Words.{Mem}
 use Rattle.model.specs.Layout.{validWord, headWord, tailWord, root}
-use Rattle.model.specs.Entry.{nameOk, addWords, removeWords}
+use Rattle.model.specs.Entry.{nameOk, newNameOk, addWords, removeWords}
 use Rattle.model.specs.State.{Names, namesOf, withName, without, inodeOf}
 use Rattle.model.specs.Accept.{isValid, isFile, free, viewOk}
 use Rattle.model.specs.FileMap.{mapOf, mapAfter, create, link, unlink, rename}
@@ -28,6 +28,11 @@ use Rattle.model.proofs.Calls.Stored.{prepared-low}
 use Rattle.model.proofs.Calls.Small.{Inside, SmallEntries, no-small, cons-small, add-small, remove-small}
 use Rattle.model.proofs.Calls.Grown.{few-pages, freeBehind, DeadIn}
 use Rattle.model.proofs.Calls.Names.{target-here, target-other, target-none, Valid, no-change, one-change, Naming, appends, now, word-now, names-now, valid-now, valid-set, after-now, bytes-now, naming-owed, names-fine-before}
+
+-- a name that a file may be given may stand
+may-stand : (n : List ℕ) → newNameOk n ≡ true → nameOk n ≡ true
+unfolding newNameOk
+may-stand n h = search ands
 
 module _ (P N : ℕ) (m : Mem) (r : Ready P N m) where
   ok : viewOk m P N ≡ true
@@ -85,9 +90,9 @@ module _ (P N : ℕ) (m : Mem) (r : Ready P N m) where
   pub link-done : (a b : List ℕ) → Duty P N m (link a b) (linkAction m P N root a b)
   unfolding actionChecks actionGroups linkAction isFull entriesOnly mapAfter
   link-done a b bytes p =
-      let h : nameOk a && nameOk b ≡ true = not-false _ (p .0) in
+      let h : nameOk a && newNameOk b ≡ true = not-false _ (p .0) in
       plain-sound P N m r _ refl [] _
-      (link-owed a b (bytes .1) (room-passed m P N true _ (p .1 .1 .1 .1)) (search ands) (eqb-false _ _ (not-true _ (not-false _ (p .1 .0))))
+      (link-owed a b (bytes .1) (room-passed m P N true _ (p .1 .1 .1 .1)) (may-stand b (search ands)) (eqb-false _ _ (not-true _ (not-false _ (p .1 .0))))
       (eqb-true _ _ (not-false _ (p .1 .1 .0))) (leb-false _ _ (p .1 .1 .1 .0)))
 
   -- A call that may let go of the file that name n leads to.
@@ -170,11 +175,11 @@ module _ (P N : ℕ) (m : Mem) (r : Ready P N m) where
   pub rename-done : (a b : List ℕ) → Duty P N m (rename a b) (renameAction m P N root a b)
   unfolding actionChecks actionGroups renameAction sameInode entriesOnly mapAfter
   rename-done a b bytes p =
-      let h : nameOk a && nameOk b ≡ true = not-false _ (p .0) in
+      let h : nameOk a && newNameOk b ≡ true = not-false _ (p .0) in
       by-eq (inodeOf names a) (inodeOf names b)
       (λ e. rw (eq-eqb _ _ e) (nothing-safe P N _ m _ r (omega arith) (sym (rename-same m P N a b e))))
       (λ e. rw (ne-eqb _ _ e) (plain-sound P N m r _ refl (release m P N root b) _
-      (rename-owed a b (bytes .0) (bytes .1) (room-passed m P N false _ (rw (ne-eqb _ _ e) at (p .1 .1))) (search ands) (search ands)
+      (rename-owed a b (bytes .0) (bytes .1) (room-passed m P N false _ (rw (ne-eqb _ _ e) at (p .1 .1))) (search ands) (may-stand b (search ands))
       (eqb-false _ _ (not-true _ (not-false _ (p .1 .0)))) e)))
 
   -- Create.
@@ -241,5 +246,5 @@ module _ (P N : ℕ) (m : Mem) (r : Ready P N m) where
   create-done n bytes p =
       let f = some-is (invalidInode m P N) (not-false _ (p .1 .1 .0)) in
       rw (f .1) (append-sound P N m r _ refl ((validWord (f .0), 1) ∷ []) _ _
-      (create-owed n bytes (f .0) (f .1) (room-passed m P N true _ (rw (f .1) at (p .1 .1 .1 .1))) (not-false _ (p .0))
+      (create-owed n bytes (f .0) (f .1) (room-passed m P N true _ (rw (f .1) at (p .1 .1 .1 .1))) (may-stand n (not-false _ (p .0)))
       (eqb-true _ _ (not-false _ (p .1 .0))) (leb-false _ _ (p .1 .1 .1 .0))))

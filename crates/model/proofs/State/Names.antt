@@ -113,6 +113,18 @@ inodeOf-without (p ∷ ps) a b d =
     (λ t. rw (without-same a p ps t, r, inodeOf, same-ne (p .0) b (λ e. d (sym (same-true (p .0) a t) ∙ e))))
     (λ t. rw (without-other a p ps t) (by-bool (isNamed b p) (λ s. rw (inodeOf, s)) (λ s. rw (inodeOf, s) r)))
 
+pub inodeOf-gone : (ns : Names) (n : List ℕ) → inodeOf (without n ns) n ≡ 0
+inodeOf-gone ns n = inodeOf-absent (without n ns) n (gone-without n ns)
+
+inodeOf-snoc : (ns : Names) (a : List ℕ) (i : ℕ) (b : List ℕ) → (a ≡ b → ⊥) → inodeOf (ns ++ (a, i) ∷ []) b ≡ inodeOf ns b
+unfolding inodeOf
+inodeOf-snoc [] a i b d = rw (same-ne a b d)
+inodeOf-snoc (p ∷ ps) a i b d = by-bool (isNamed b p) (λ s. rw (inodeOf, s)) (λ s. rw (inodeOf, s) (inodeOf-snoc ps a i b d))
+
+pub inodeOf-with : (ns : Names) (a : List ℕ) (i : ℕ) (b : List ℕ) → (a ≡ b → ⊥) → inodeOf (withName a i ns) b ≡ inodeOf ns b
+unfolding withName
+inodeOf-with ns a i b d = inodeOf-snoc (without a ns) a i b d ∙ inodeOf-without ns a b d
+
 -- Lengths.
 
 pub length-without : (n : List ℕ) (ns : Names) → DistinctNames ns → length (without n ns) + bit (standsIn n ns) ≡ length ns

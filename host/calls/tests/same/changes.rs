@@ -3,7 +3,7 @@
 
 use crate::compare::{Compared, Counts, CHANGES, NOTHING};
 use reference::layout::{set_word, word};
-use reference::{judge, land, Call};
+use reference::{judge, land, Call, FileMap};
 use samples::{
     any_call, clean, create, entry_add, entry_remove, entry_size, entry_write, formatted, link,
     long_directory, map_of, numbered, put_log, random_cut, rename, sample, set_size, text, unlink,
@@ -35,14 +35,33 @@ fn history(seed: u64, pages: u64, inodes: u64, length: u64, counts: &mut Counts)
     random_calls(&mut random, volume, length, counts);
 }
 
+/// Makes a call on both, and answers the volume that it leaves; none where it fills no word.
+pub fn volume_after(volume: &[u8], call: &Call, counts: &mut Counts) -> Option<Vec<u8>> {
+    let list = Compared::new(volume, 0, counts).change(call, 4_096);
+    let mut after = volume.to_vec();
+    land(&mut after, &list);
+    (!list.is_empty()).then_some(after)
+}
+
 /// So many random calls from an accepted volume on, some of them cut.
-pub fn random_calls(random: &mut Random, mut volume: Vec<u8>, length: u64, counts: &mut Counts) {
+pub fn random_calls(random: &mut Random, volume: Vec<u8>, length: u64, counts: &mut Counts) {
+    drawn_calls(random, volume, length, any_call, counts);
+}
+
+/// So many calls from an accepted volume on, drawn with its inode count and map; some of them cut.
+pub fn drawn_calls(
+    random: &mut Random,
+    mut volume: Vec<u8>,
+    length: u64,
+    draw: fn(&mut Random, u64, &FileMap) -> Call,
+    counts: &mut Counts,
+) {
     let inodes = word(&volume, 1);
     for _ in 0..length {
         let open = judge(&volume).is_ok_and(|judged| judged.journal.is_open());
         let call = match open && !random.once_in(3) {
             true => Call::Recover,
-            false => any_call(random, inodes, &map_of(&volume)),
+            false => draw(random, inodes, &map_of(&volume)),
         };
         let list = Compared::new(&volume, 0, counts).change(&call, 4_096);
         if !list.is_empty() && random.once_in(6) {

@@ -1,9 +1,8 @@
 //! Volumes with few free pages (order 4 of document 02): calls that would take the last one, and
 //! calls that go on from there.
 
-use crate::changes::random_calls;
+use crate::changes::{random_calls, volume_after};
 use crate::compare::{Compared, Counts, CHANGES, NOTHING};
-use reference::land;
 use samples::{last_page, Random};
 
 /// The calls that keep one page back.
@@ -34,12 +33,9 @@ fn calls_after_a_call() {
     for (sample, number) in last_page().step_by(5).zip(0..) {
         let [first, others] = [number % 5, 0].map(|skipped| sample.calls.iter().skip(skipped));
         for call in first.step_by(5) {
-            let list = Compared::new(&sample.volume, 0, &mut counts).change(call, 4_096);
-            if list.is_empty() {
+            let Some(volume) = volume_after(&sample.volume, call, &mut counts) else {
                 continue;
-            }
-            let mut volume = sample.volume.clone();
-            land(&mut volume, &list);
+            };
             let compared = Compared::new(&volume, number % 8, &mut counts);
             let mut compared = compared.titled(format!("{}{call:?}, ", sample.title));
             for call in others.clone() {

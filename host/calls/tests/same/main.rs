@@ -9,6 +9,7 @@ mod compare;
 mod compiled;
 mod damaged;
 mod directories;
+mod dot_names;
 mod gaps;
 mod histories;
 mod large;

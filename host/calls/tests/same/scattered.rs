@@ -1,8 +1,8 @@
 //! Writes on volumes whose free pages lie scattered (order 3 of document 02), and calls that go on from there.
 
-use crate::changes::random_calls;
+use crate::changes::{random_calls, volume_after};
 use crate::compare::{Compared, Counts};
-use reference::{land, Call};
+use reference::Call;
 use samples::{appended_entries, clean, scattered, set_size, unlink, write, Random};
 
 /// Every write of every sample: the answer, and every word of the list.
@@ -51,12 +51,9 @@ fn volumes_after_a_write() {
     let mut counts = Counts::default();
     let mut with_entries = [0; 10];
     for sample in scattered().step_by(2) {
-        let list = Compared::new(&sample.volume, 0, &mut counts).change(&sample.writes[0], 4_096);
-        if list.is_empty() {
+        let Some(volume) = volume_after(&sample.volume, &sample.writes[0], &mut counts) else {
             continue;
-        }
-        let mut volume = sample.volume.clone();
-        land(&mut volume, &list);
+        };
         let entries = appended_entries(&sample.volume, &volume, 1);
         with_entries[entries as usize] += 1;
         compare_after(&sample.title, &volume, &mut counts);

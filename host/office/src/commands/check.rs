@@ -30,10 +30,10 @@ fn accepted(store: &Store, free: u64) -> Outcome {
     );
     say(&format!("accepted: {count}, {free}, journal closed"))?;
     if is_stuck(store.volume()) {
-        say(&way_out(store.volume(), &store.shown()))?;
+        say(&way_out(store.volume(), &store.typed()))?;
     }
     if names.iter().any(|name| name == PART) {
-        let (name, volume) = (shown_name(PART), store.shown());
+        let (name, volume) = (shown_name(PART), store.typed());
         say(&format!(
             "{name}: left by a killed put; the next put or 'office recover {volume}' removes it"
         ))?;
@@ -46,7 +46,7 @@ fn verdict(store: &Store, refusal: Refusal) -> String {
     let (refused, reason) = (refused(refusal), reason(store));
     match refusal {
         Refusal::JournalOpen => {
-            let volume = store.shown();
+            let volume = store.typed();
             format!("{refused}: {reason}; run 'office recover {volume}'")
         }
         _ => format!("{refused}: {reason}"),

@@ -24,8 +24,8 @@ pub fn run(arguments: &Arguments) -> Outcome {
         return Ok(());
     }
     if is_stuck(store.volume()) {
-        let (volume, shown) = (store.volume(), store.shown());
-        complain(&format!("{shown}: {}", way_out(volume, &shown)));
+        let out = way_out(store.volume(), &store.typed());
+        complain(&format!("{}: {out}", store.shown()));
     }
     Err(Failure::Said(1))
 }

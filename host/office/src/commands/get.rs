@@ -3,10 +3,10 @@
 use super::{contents, names, open, size, PART};
 use crate::arguments::Arguments;
 use crate::failure::{Failure, Outcome};
-use crate::files::{in_the_way, write_whole};
+use crate::files::{in_the_way, stands_for_folder, write_whole};
 use crate::progress::Progress;
 use crate::store::Store;
-use crate::text::{complain, counted, print, say, shown_name, shown_path};
+use crate::text::{complain, counted, print, say, shown_name, shown_path, typed_path};
 use std::ffi::OsStr;
 use std::fs;
 use std::os::unix::ffi::OsStrExt;
@@ -40,75 +40,101 @@ fn get_one(arguments: &Arguments, name: &[u8], dest: Option<&OsStr>) -> Outcome 
         return print(&contents(&store, name)?);
     }
     let bytes = size(&store, name)?;
-    let dest = destination(name, dest).map_err(Failure::Host)?;
+    let dest = destination(&store, name, dest).map_err(Failure::Host)?;
     if let Some(problem) = in_the_way(&dest, arguments.has("--force"), arguments.volume()) {
         return Err(Failure::Host(problem));
     }
     copy(&store, &[(name.to_vec(), dest)], bytes, arguments)
 }
 
-/// Where a file goes: to its own name, into a folder, or to the path that is given.
-fn destination(name: &[u8], dest: Option<&OsStr>) -> Result<PathBuf, String> {
+/// Where a file goes: to its own name, into a folder, or to the path that is given. If it cannot have its own name
+/// there, what to say of it.
+fn destination(store: &Store, name: &[u8], dest: Option<&OsStr>) -> Result<PathBuf, String> {
+    let here = Path::new("");
     match dest.map(Path::new) {
-        None if name == b"-" => Err(unfit(name)),
-        None => within(Path::new(""), name),
-        Some(folder) if folder.is_dir() => within(folder, name),
+        None if name == b"-" => Err(unfit(store, name, here, "as DEST this is standard output")),
+        None => within(store, name, here),
+        Some(folder) if folder.is_dir() => within(store, name, folder),
         Some(path) => Ok(path.to_path_buf()),
     }
 }
 
-/// The path of a name in a folder; "." and ".." are names of folders there.
-fn within(folder: &Path, name: &[u8]) -> Result<PathBuf, String> {
-    match name {
-        b"." | b".." => Err(unfit(name)),
-        _ => Ok(folder.join(OsStr::from_bytes(name))),
+/// The path of a name in a folder; if no file can have this name there, what to say of it.
+fn within(store: &Store, name: &[u8], folder: &Path) -> Result<PathBuf, String> {
+    if stands_for_folder(name) {
+        let why = "the host cannot have a file of this name";
+        return Err(unfit(store, name, folder, why));
     }
+    Ok(folder.join(OsStr::from_bytes(name)))
 }
 
-fn unfit(name: &[u8]) -> String {
+/// Says why a file cannot have its own name in a folder, and how it gets there under another.
+fn unfit(store: &Store, name: &[u8], folder: &Path, why: &str) -> String {
+    let (volume, dest) = (store.typed(), typed_path(folder.join("DEST")));
     let name = shown_name(name);
-    format!("{name}: cannot be the name of a file of the host; get NAME DEST gives it another")
+    format!("{name}: {why}; 'office get {volume} {name} {dest}' copies it under another name")
 }
 
+/// The files that go into a folder, and those for which that cannot be.
+#[derive(Default)]
+struct Sorted {
+    /// The names, each with its path in the folder.
+    copies: Vec<(Vec<u8>, PathBuf)>,
+    /// Their bytes together.
+    bytes: u64,
+    /// A line for each path at which something is in the way.
+    blocked: Vec<String>,
+    /// A line for each file that cannot have its own name in the folder.
+    left_out: Vec<String>,
+}
+
+/// Copies what can be copied, then says what was left out.
 fn get_all(arguments: &Arguments, folder: &Path) -> Outcome {
     let store = open(arguments)?;
-    let mut copies = Vec::new();
-    let mut problems = Vec::new();
-    let mut bytes = 0;
-    for name in names(&store)? {
+    let sorted = sort(&store, arguments, folder)?;
+    if !sorted.blocked.is_empty() {
+        complain_all(sorted.blocked.iter().chain(&sorted.left_out));
+        return Err(Failure::Host("get: nothing was copied".into()));
+    }
+    let made = fs::create_dir_all(folder);
+    made.map_err(|error| Failure::Host(format!("{}: {error}", shown_path(folder))))?;
+    let copied = copy(&store, &sorted.copies, sorted.bytes, arguments);
+    // Where nobody reads what was copied, it is still to be said what was not.
+    let whole = matches!(copied, Ok(()) | Err(Failure::Quiet));
+    if !whole || sorted.left_out.is_empty() {
+        return copied;
+    }
+    complain_all(&sorted.left_out);
+    let count = counted(sorted.left_out.len() as u64, "file");
+    Err(Failure::Host(format!("get: {count} left out")))
+}
+
+/// Sorts the files of a volume that are to go into a folder.
+fn sort(store: &Store, arguments: &Arguments, folder: &Path) -> Result<Sorted, Failure> {
+    let (force, volume) = (arguments.has("--force"), arguments.volume());
+    let mut sorted = Sorted::default();
+    for name in names(store)? {
         if name == PART {
             let name = shown_name(PART);
             complain(&format!("{name}: left by a killed put, not copied"));
             continue;
         }
-        bytes += size(&store, &name)?;
-        match within(folder, &name) {
+        match within(store, &name, folder) {
             Ok(dest) => {
-                problems.extend(in_the_way(
-                    &dest,
-                    arguments.has("--force"),
-                    arguments.volume(),
-                ));
-                copies.push((name, dest));
+                sorted.bytes += size(store, &name)?;
+                sorted.blocked.extend(in_the_way(&dest, force, volume));
+                sorted.copies.push((name, dest));
             }
-            Err(problem) => problems.push(problem),
+            Err(line) => sorted.left_out.push(line),
         }
     }
-    check_none(&problems)?;
-    let made = fs::create_dir_all(folder);
-    made.map_err(|error| Failure::Host(format!("{}: {error}", shown_path(folder))))?;
-    copy(&store, &copies, bytes, arguments)
+    Ok(sorted)
 }
 
-/// Says what is in the way. One file is enough that nothing is copied.
-fn check_none(problems: &[String]) -> Outcome {
-    if problems.is_empty() {
-        return Ok(());
+fn complain_all<'l>(lines: impl IntoIterator<Item = &'l String>) {
+    for line in lines {
+        complain(line);
     }
-    for problem in problems {
-        complain(problem);
-    }
-    Err(Failure::Host("get: nothing was copied".into()))
 }
 
 /// Copies files of `bytes` bytes together, each to its path.

@@ -34,7 +34,9 @@ fn two_names(
         keeping,
     };
     let planned = planned(&store, &change, |plan| {
-        store.ask(plan, &what, |volume, list| call(volume, old, new, list))
+        let asked = plan.call(|volume, list| call(volume, old, new, list));
+        asked.map_err(|refusal| store.refused_new(&what, new, refusal))?;
+        Ok(())
     })?;
     planned.finish(&mut store)?;
     store.say_if_uncut();

@@ -8,7 +8,7 @@ use crate::progress::Progress;
 use crate::room::{planned, say_cleaned, Change, Keeping};
 use crate::store::{Plan, Store};
 use crate::text::{complain, counted, say, shown_name};
-use calls::layout::WRITE_LIMIT;
+use calls::layout::{LIST_WORDS, WRITE_LIMIT};
 use refusal::Refusal;
 use std::ffi::OsString;
 use std::os::unix::ffi::OsStrExt;
@@ -53,15 +53,17 @@ fn gather(arguments: &Arguments) -> Sources {
     }
 }
 
-/// Notes the sources whose names the volume cannot hold. A name given on the command line is refused at once, and so
-/// is a volume that no call would change.
+/// Notes the sources whose names no file of the volume can get. A name given on the command line is refused at once,
+/// and so is a volume that no call would change.
 fn check_names(store: &Store, sources: &mut Sources, given: bool) -> Outcome {
     free(store)?;
+    let mut list = vec![0; LIST_WORDS];
     let mut problems = Vec::new();
     for source in &sources.files {
-        match calls::find(store.volume(), &source.name) {
+        // Find takes any name that can stand; create judges whether a file can get it, before all else.
+        match calls::create(store.volume(), &source.name, &mut list) {
             Err(refusal @ Refusal::BadName) if given => {
-                return Err(store.refused(&shown_name(&source.name), refusal));
+                return Err(store.refused_new(&shown_name(&source.name), &source.name, refusal));
             }
             Err(Refusal::BadName) => {
                 let length = source.name.len();

@@ -64,7 +64,8 @@ Puts each PATH, a file of the host or a folder, whose files are put under their
 own names in byte order. A file of the same name in the volume is replaced; other
 names that it has there keep the old file. Paths that cannot be put (a folder
 inside a folder, a name over 32 bytes, a file over 65,536 bytes, no regular file,
-two of one name) are all listed before the first store, and nothing is put.
+two of one name) are all listed before the first store, and nothing is put. No
+file can get the name \".\" or \"..\".
 
 Each file is put whole or not at all, whatever the power does: it is written
 under the name .office-part and renamed at the end. A .office-part that a killed
@@ -100,7 +101,11 @@ Copies a file of the volume to DEST, or to its own name in the current folder.
 If DEST is a folder, the file goes into it; - is standard output. Files of the
 host that exist are not replaced without --force. With --all every file goes into
 FOLDER, which is made if it is missing; everything that is in the way is listed
-before the first file is written, and nothing is copied.",
+before the first file is written, and nothing is copied.
+
+The host cannot have a file named \".\" or \"..\": such a file is copied only to a
+DEST that is no folder. --all copies the others, says which it left out and how
+to get them, and the exit status is then 3.",
         options: &[
             Choice {
                 name: "--all",
@@ -146,8 +151,9 @@ as \\xNN; elsewhere names are written as they are.",
         summary: "renames a file, over a file that has the new name",
         text: "\
 Renames OLD to NEW. A file that has the name NEW loses it, and goes if it has no
-other. If both names lead to one file, nothing changes. Where there is no room,
-mv cleans logs first, if that helps, and says which.",
+other. If both names lead to one file, nothing changes. NEW cannot be \".\" or
+\"..\", but OLD can. Where there is no room, mv cleans logs first, if that helps,
+and says which.",
         options: &[CUT],
         example: "office mv day.vol fresh.txt arrivals.txt",
         least: 3,
@@ -159,9 +165,9 @@ mv cleans logs first, if that helps, and says which.",
         forms: &["VOLUME OLD NEW [--cut GROUP]"],
         summary: "gives a file one more name",
         text: "\
-Gives the file OLD the name NEW too. NEW must not stand. As many pages stay free
-as with put. Where there is no room, ln cleans logs first, if that helps, and
-says which.",
+Gives the file OLD the name NEW too. NEW must not stand, and cannot be \".\" or
+\"..\". As many pages stay free as with put. Where there is no room, ln cleans logs
+first, if that helps, and says which.",
         options: &[CUT],
         example: "office ln day.vol arrivals.txt gate.txt",
         least: 3,

@@ -129,6 +129,15 @@ impl Folder {
         Ran::of(child.wait_with_output().expect("the tool runs"))
     }
 
+    /// Types a command line in a shell, in this folder, to whose end it runs; "office" is the tool.
+    pub fn types(&self, line: &str) -> Ran {
+        let tool = Path::new(env!("CARGO_BIN_EXE_office"));
+        let mut shell = Command::new("/bin/sh");
+        shell.args(["-c", line]).current_dir(&self.path);
+        shell.env("PATH", tool.parent().expect("a folder"));
+        Ran::of(shell.output().expect("a shell"))
+    }
+
     /// Runs a command that must be done, with nothing on standard error; answers what it said.
     pub fn done(&self, arguments: &[impl AsRef<OsStr>]) -> Vec<u8> {
         let ran = self.office(arguments);
@@ -160,6 +169,18 @@ impl Folder {
 impl Drop for Folder {
     fn drop(&mut self) {
         let _ = fs::remove_dir_all(&self.path);
+    }
+}
+
+/// Runs commands that must end with a status and a line, and leave the volume "v" as it was.
+pub fn each_fails(folder: &Folder, status: i32, cases: &[(&[&str], &str)]) {
+    for (command, line) in cases {
+        let before = fs::read(folder.join("v")).ok();
+        let ran = folder.office(command);
+        let expected = format!("office: {line}\n");
+        assert_eq!((ran.status, ran.err), (status, expected), "{command:?}");
+        assert_eq!(ran.out, b"", "{command:?}");
+        assert!(fs::read(folder.join("v")).ok() == before, "{command:?}");
     }
 }
 
