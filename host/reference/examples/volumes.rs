@@ -44,6 +44,11 @@ fn inputs() -> Vec<(&'static str, Vec<u8>, &'static str)> {
         ("free-100", formatted(102, 8), "files 0 free 100\n"),
         ("full", full(), "files 1 free 0\n"),
         ("links", links(), "files 4 free "),
+        (
+            "dot-names",
+            dot_names(),
+            "files 2 free 13\n1 700 .\n2 0 ..\n",
+        ),
         ("numbers", numbers(), "files 9 free "),
         ("names-224", most_names(), "files 224 free 1\n"),
         ("largest", largest(), "files 1 free 117\n"),
@@ -126,6 +131,14 @@ fn links() -> Vec<u8> {
     done(&mut volume, &Call::Rename { old, new });
     let name = b"B2".to_vec();
     done(&mut volume, &Call::Unlink { name });
+    volume
+}
+
+/// The names "." and "..", which no call gives to a file.
+fn dot_names() -> Vec<u8> {
+    let mut volume = samples::sample();
+    samples::give_name(&mut volume, b"A1", b".");
+    samples::give_name(&mut volume, b"B2", b"..");
     volume
 }
 
