@@ -1,4 +1,4 @@
--- Dot names: a list of one byte, or of two, is what its members are, and no other length is that of "." or "..".
+-- Dot names: a name of one or two bytes is told by its bytes, and no name of another length is one.
 use Rattle.model.proofs.Prelude.{ℕ, _≡_, refl, Bool, true, false, not, List, [], _∷_, arith, length, getD, eqb, ne-eqb, not-true, not-false}
 use Rattle.model.specs.Lists.{sameList}
 use Rattle.model.specs.Entry.{nameOk, isDotName, newNameOk}
@@ -22,12 +22,12 @@ unfolding isDotName sameList
 dot-first [] f = refl
 dot-first (x ∷ n) f = rw (ne-eqb x 46 f)
 
-pub dot-long : (n : List ℕ) → (length n ≡ 1 → ⊥) → (length n ≡ 2 → ⊥) → false ≡ isDotName n
+pub dot-other : (n : List ℕ) → (length n ≡ 1 → ⊥) → (length n ≡ 2 → ⊥) → false ≡ isDotName n
 unfolding isDotName sameList
-dot-long [] g h = refl
-dot-long (x ∷ []) g h = absurd (g refl)
-dot-long (x ∷ y ∷ []) g h = absurd (h refl)
-dot-long (x ∷ y ∷ z ∷ n) g h = by-bool (eqb x 46) (λ e. rw e (by-bool (eqb y 46) (λ d. rw d) (λ d. rw d))) (λ e. rw e)
+dot-other [] g h = refl
+dot-other (x ∷ []) g h = absurd (g refl)
+dot-other (x ∷ y ∷ []) g h = absurd (h refl)
+dot-other (x ∷ y ∷ z ∷ n) g h = by-bool (eqb x 46) (λ e. rw e (by-bool (eqb y 46) (λ d. rw d) (λ d. rw d))) (λ e. rw e)
 
 -- a name that a file may be given: f is what `is_name` answered, g what `is_dot_name` answered
 module _ (n : List ℕ) (f : Bool) (a : f ≡ nameOk n) where

@@ -18,6 +18,11 @@ use Rattle.model.proofs.State.Names.{inodeOf-without, inodeOf-gone, ino
 use Rattle.model.proofs.Crash.History.{Passed, by-refusals}
 use Rattle.model.proofs.Corollaries.{step, bytes-after}
 
+-- a file that goes takes no name along
+names-kept : (k : ℕ) (M : FileMap) → dropUnnamed k M .names ≡ M .names
+unfolding dropUnnamed withFile
+names-kept k M = by-bool (has k (inodes (M .names))) (λ e. rw e) (λ e. rw e)
+
 -- n is a dot name
 module _ (n : List ℕ) (dots : isDotName n ≡ true) where
   not-given : (b : List ℕ) → newNameOk b ≡ true → b ≡ n → ⊥
@@ -30,11 +35,7 @@ module _ (n : List ℕ) (dots : isDotName n ≡ true) where
       by-bool (sameList a n) (λ e. rw (same-true a n e) (inodeOf-gone ns n))
       (λ e. inodeOf-without ns a n (λ q. clash (sameList a n) (rw q (same-refl n)) e) ∙ h)
 
-  -- a file that goes takes no name along
-  names-kept : (k : ℕ) (M : FileMap) → dropUnnamed k M .names ≡ M .names
-  unfolding dropUnnamed withFile
-  names-kept k M = by-bool (has k (inodes (M .names))) (λ e. rw e) (λ e. rw e)
-
+  -- a call that passed its checks adds no dot name to the map
   absent-after : (c : Call) (m : Mem) (P N : ℕ) → Passed (checks m P N c) → (M : FileMap) → inodeOf (M .names) n ≡ 0
       → inodeOf (mapAfter N c M .names) n ≡ 0
   unfolding checks action actionChecks createAction linkAction renameAction mapAfter withFile withNames

@@ -1,6 +1,6 @@
 -- Each answer is a law of dot names.
 use Rattle.model.proofs.Prelude.{needs}
-use Rattle.lookup.proofs.Dots.{dot-one, dot-two, dot-first, dot-long}
+use Rattle.lookup.proofs.Dots.{dot-one, dot-two, dot-first, dot-other}
 use Rattle.lookup.proofs.is_dot_name.Statement.{statement}
 use Rattle.lookup.proofs.is_dot_name.Tie as tie
 
@@ -10,7 +10,7 @@ is-dot-name-spec =
     (tie.spec
     (λ c. search needs)
     (λ c. search (dot-one, needs))
-    (λ c. search (dot-long, needs))
+    (λ c. search (dot-other, needs))
     (λ c. search needs)
     (λ c. search (dot-first, needs))
     (λ c. search needs)
