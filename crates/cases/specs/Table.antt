@@ -14,7 +14,7 @@ pub data Step : Type 0 where
   calls : (start : ℕ) → (call : Call) → Step
   -- make a call on the volume that row `start` left; it is cut in group g, counted from 0, of which the words `kept` land
   cuts : (start : ℕ) → (call : Call) → (g : ℕ) → (kept : List ℕ) → Step
-  -- carry a list that no call filled out on the volume that row `start` left
+  -- land all stores of a list that no call filled on the volume that row `start` left
   stores : (start : ℕ) → (list : List ℕ) → Step
 
 -- The answer that is expected: done, done with a count of words, or refused with a number.
