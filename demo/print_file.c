@@ -1,8 +1,9 @@
 /*
  * Prints one file of a volume as the handheld's firmware reads it: with find, size and read of include/volume.h alone.
  *
- * Use: print_file VOLUME NAME. The volume is a file of the host, which stands for the persistent memory. The exit status is 0 where the
- * file was printed, 1 where a call was refused (the refusal's number is printed), 2 where the host has no such file.
+ * Use: print_file VOLUME PATH. The volume is a file of the host, which stands for the persistent memory. The path is a name in the root,
+ * or names joined by "/": those of folders, each in the one before it, and last the file's. The exit status is 0 where the file was
+ * printed, 1 where a call was refused (the refusal's number is printed), 2 where the host has no such file.
  */
 #include "volume.h"
 
@@ -22,10 +23,24 @@ static int refused(const char *call, int64_t answer)
     return 1;
 }
 
-/* Prints the file of this name, or the first refusal. */
-static int print_file(size_t memory_len, const char *name)
+/* Finds the names of a path one by one, each in the folder that the one before it leads to. Answers the last one's inode, or the first
+   refusal. */
+static int64_t find_path(size_t memory_len, const char *path)
 {
-    int64_t inode = volume_find(memory, memory_len, (const uint8_t *)name, strlen(name));
+    int64_t inode = (int64_t)VOLUME_ROOT;
+    for (;;) {
+        size_t name_len = strcspn(path, "/");
+        inode = volume_find(memory, memory_len, (uint64_t)inode, (const uint8_t *)path, name_len);
+        if (inode < 0 || path[name_len] == '\0')
+            return inode;
+        path += name_len + 1;
+    }
+}
+
+/* Prints the file at this path, or the first refusal. */
+static int print_file(size_t memory_len, const char *path)
+{
+    int64_t inode = find_path(memory_len, path);
     if (inode < 0)
         return refused("find", inode);
     int64_t size = volume_size(memory, memory_len, (uint64_t)inode);
@@ -41,7 +56,7 @@ static int print_file(size_t memory_len, const char *name)
 int main(int argc, char **argv)
 {
     if (argc != 3) {
-        fputs("usage: print_file VOLUME NAME\n", stderr);
+        fputs("usage: print_file VOLUME PATH\n", stderr);
         return 2;
     }
     FILE *volume = fopen(argv[1], "rb");

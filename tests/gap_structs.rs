@@ -56,11 +56,14 @@ fn main() {
             assert_eq!(code(volume::format(&mut volume, pages as u64, 16)), 0);
             for _ in 0..120 {
                 let (name, inode) = ([65 + random.below(12) as u8], random.below(16));
+                let (folder, other) = (random.below(4), random.below(4));
                 let (offset, bytes) = (random.below(9000), vec![1; random.below(3000) as usize]);
-                match random.below(5) {
-                    0 => step(&mut volume, |v, list| volume::create(v, &name, list)),
-                    1 => step(&mut volume, |v, list| volume::unlink(v, &name, list)),
-                    2 => step(&mut volume, |v, list| volume::clean(v, inode, list)),
+                match random.below(8) {
+                    0 | 1 => step(&mut volume, |v, list| volume::create(v, folder, &name, list)),
+                    2 => step(&mut volume, |v, list| volume::create_folder(v, folder, &name, list)),
+                    3 => step(&mut volume, |v, list| volume::unlink(v, folder, &name, list)),
+                    4 => step(&mut volume, |v, list| volume::rename(v, folder, &name, other, &name, list)),
+                    5 => step(&mut volume, |v, list| volume::clean(v, inode, list)),
                     _ => step(&mut volume, |v, list| volume::write(v, inode, offset, &bytes, list)),
                 }
                 most = most.max(compare(&volume));

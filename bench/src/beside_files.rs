@@ -6,6 +6,7 @@
 
 use crate::table::{shown, whole, Table};
 use crate::timing::{Effort, Time};
+use calls::layout::ROOT;
 use calls::list::groups;
 use calls::{Answer, Refusal};
 use office::disk::land_group;
@@ -119,10 +120,10 @@ impl InMemory {
         let (volume, list) = (&self.volume, &mut self.list);
         let (last, new) = (LAST_NAME.as_bytes(), NEW.as_bytes());
         match operation {
-            Operation::Create => calls::create(volume, new, list),
-            Operation::Link => calls::link(volume, last, new, list),
-            Operation::Unlink => calls::unlink(volume, last, list),
-            Operation::Rename => calls::rename(volume, last, new, list),
+            Operation::Create => calls::create(volume, ROOT, new, list),
+            Operation::Link => calls::link(volume, ROOT, last, ROOT, new, list),
+            Operation::Unlink => calls::unlink(volume, ROOT, last, list),
+            Operation::Rename => calls::rename(volume, ROOT, last, ROOT, new, list),
             Operation::Write(length) => calls::write(volume, LAST, 0, &self.bytes[..length], list),
             Operation::SetSize => calls::set_size(volume, LAST, 100, list),
             _ => self.look(operation).map(|_| 0),
@@ -132,10 +133,10 @@ impl InMemory {
     /// A reading call.
     fn look(&mut self, operation: Operation) -> Answer {
         match operation {
-            Operation::Find => calls::find(&self.volume, LAST_NAME.as_bytes()),
+            Operation::Find => calls::find(&self.volume, ROOT, LAST_NAME.as_bytes()),
             Operation::Size => calls::size(&self.volume, LAST),
             Operation::Read => calls::read(&self.volume, LAST, 0, &mut self.buffer),
-            Operation::KthName => calls::kth_name(&self.volume, FILES - 1, &mut self.buffer),
+            Operation::KthName => calls::kth_name(&self.volume, ROOT, FILES - 1, &mut self.buffer),
             _ => Err(Refusal::NotThere),
         }
     }
@@ -376,8 +377,8 @@ fn time(place: &mut impl Place, operation: Operation, effort: Effort) -> Time {
     )
 }
 
-/// Two cells: a time, and the ratio of its median to that of the volume in memory. Not measured where the outer is `None`, and not asked for
-/// where the inner one is.
+/// Two cells: a time, and the ratio of its median to that of the volume in memory. Not measured where the outer is `None`, and not asked
+/// for where the inner one is.
 fn beside(memory: Time, timed: Option<Option<Time>>) -> [String; 2] {
     match timed {
         Some(Some(time)) => [best_and_median(time), shown(time.median / memory.median)],
@@ -445,12 +446,12 @@ mod tests {
     fn operations_mean_the_same_on_a_volume() {
         let mut memory = InMemory::new();
         memory.run(Operation::Rename);
-        assert_eq!(calls::find(&memory.volume, NEW.as_bytes()), Ok(LAST));
+        assert_eq!(calls::find(&memory.volume, ROOT, NEW.as_bytes()), Ok(LAST));
         memory.run(Operation::SetSize);
         assert_eq!(calls::size(&memory.volume, LAST), Ok(100));
         let mut memory = InMemory::new();
         memory.run(Operation::Unlink);
         assert_eq!(numbered(FILES - 1), LAST_NAME.as_bytes());
-        assert!(calls::find(&memory.volume, LAST_NAME.as_bytes()).is_err());
+        assert!(calls::find(&memory.volume, ROOT, LAST_NAME.as_bytes()).is_err());
     }
 }

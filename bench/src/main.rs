@@ -1,9 +1,10 @@
 //! Measures the compiled calls: beside the reference model, beside file systems of the host, beside memcpy, their store lists, and
-//! against the volume's size. `bench/run` makes docs/FIGURES.md with it.
+//! against the volume's size and its folders. `bench/run` makes docs/FIGURES.md with it.
 
 mod beside_files;
 mod beside_memcpy;
 mod beside_reference;
+mod folder_volumes;
 mod page;
 mod plot;
 mod store_lists;
@@ -36,6 +37,7 @@ Built without --release it says so and ends.
   stores                  stores, bytes, lines and fences of the changing calls, from their store lists
   sources                 figures of the source documents beside those of `stores`
   sizes KIND SVG          calls on volumes of 16 to 4,096 pages, and the same as a plot in the file SVG
+  folders                 calls on volumes with folders
   clock                   what reading the clock takes
   page TEMPLATE FOLDER    prints the template, filled in with the tables (NAME.tsv) and texts (NAME.txt) of a folder
 
@@ -67,6 +69,7 @@ fn main() {
         ["stores"] => print(&store_lists::counted()),
         ["sources"] => print(&store_lists::beside_sources()),
         ["sizes", name, svg] => print_with_plot(volume_sizes::times(kind(name), effort), svg),
+        ["folders"] => print(&folder_volumes::times(effort)),
         ["clock"] => println!("{}", table::shown(timing::clock(effort).best)),
         ["page", template, folder] => print_page(Path::new(template), Path::new(folder)),
         _ => {

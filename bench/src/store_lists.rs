@@ -2,10 +2,11 @@
 
 use crate::table::{shown, whole, Table};
 use crate::volumes::{opened, Kind};
+use calls::layout::ROOT;
 use calls::list::groups;
 use calls::{Answer, Refusal};
 use reference::Call;
-use samples::{create, done, formatted, link, numbered, text, write};
+use samples::{create, create_folder, create_in, done, formatted, link, numbered, text, write};
 use std::collections::BTreeSet;
 
 /// What a store list stores.
@@ -113,6 +114,7 @@ pub fn counted() -> Table {
 /// Every shape, call by call.
 fn shapes() -> Vec<Shape> {
     let mut shapes = naming_shapes();
+    shapes.extend(folder_shapes());
     shapes.extend(write_shapes());
     shapes.extend(scattered_shapes());
     shapes.extend(size_shapes());
@@ -148,10 +150,10 @@ fn with_writes(count: usize) -> Vec<u8> {
     after(&calls)
 }
 
-/// Create, link, unlink, rename.
+/// Create, link, unlink, rename, all in the root.
 fn naming_shapes() -> Vec<Shape> {
-    let new_file = |volume: &[u8], list: &mut [u64]| calls::create(volume, b"new", list);
-    let unlink = |volume: &[u8], list: &mut [u64]| calls::unlink(volume, b"n000", list);
+    let new_file = |volume: &[u8], list: &mut [u64]| calls::create(volume, ROOT, b"new", list);
+    let unlink = |volume: &[u8], list: &mut [u64]| calls::unlink(volume, ROOT, b"n000", list);
     let two_names = after(&[create(b"n000"), link(b"n000", b"other")]);
     vec![
         Shape::new("create, empty log", with_files(0), new_file),
@@ -160,17 +162,63 @@ fn naming_shapes() -> Vec<Shape> {
         Shape::new(
             "link, room in the log page",
             with_files(1),
-            |volume, list| calls::link(volume, b"n000", b"new", list),
+            |volume, list| calls::link(volume, ROOT, b"n000", ROOT, b"new", list),
         ),
         Shape::new("unlink, one of two names", two_names, unlink),
         Shape::new("unlink, the last name", with_files(1), unlink),
         Shape::new("rename, to a new name", with_files(1), |volume, list| {
-            calls::rename(volume, b"n000", b"new", list)
+            calls::rename(volume, ROOT, b"n000", ROOT, b"new", list)
         }),
         Shape::new(
             "rename, over another file's last name",
             with_files(2),
-            |volume, list| calls::rename(volume, b"n000", b"n001", list),
+            |volume, list| calls::rename(volume, ROOT, b"n000", ROOT, b"n001", list),
+        ),
+    ]
+}
+
+/// The folder of [`with_folder`].
+const FOLDER: u64 = 1;
+
+/// A volume with a folder, and so many files in the root and in the folder, named by number.
+fn with_folder(in_root: u64, in_folder: u64) -> Vec<u8> {
+    let mut calls = vec![create_folder(ROOT, b"folder")];
+    calls.extend((0..in_root).map(|number| create(&numbered(number))));
+    calls.extend((0..in_folder).map(|number| create_in(FOLDER, &numbered(number))));
+    after(&calls)
+}
+
+/// Folders made and taken away, and names moved between two.
+fn folder_shapes() -> Vec<Shape> {
+    let new_folder =
+        |volume: &[u8], list: &mut [u64]| calls::create_folder(volume, ROOT, b"new", list);
+    let moved_to = |name: &'static [u8]| {
+        move |volume: &[u8], list: &mut [u64]| {
+            calls::rename(volume, FOLDER, b"n000", ROOT, name, list)
+        }
+    };
+    vec![
+        Shape::new("create_folder, empty log", with_files(0), new_folder),
+        Shape::new("create_folder, new log page", with_files(7), new_folder),
+        Shape::new(
+            "unlink, an empty folder",
+            with_folder(0, 0),
+            |volume, list| calls::unlink(volume, ROOT, b"folder", list),
+        ),
+        Shape::new(
+            "move to another folder, room in both log pages",
+            with_folder(1, 1),
+            moved_to(b"new"),
+        ),
+        Shape::new(
+            "move over another file's last name, room in both log pages",
+            with_folder(1, 1),
+            moved_to(b"n000"),
+        ),
+        Shape::new(
+            "move over another file's last name, two new log pages",
+            with_folder(6, 7),
+            moved_to(b"n000"),
         ),
     ]
 }
@@ -202,7 +250,7 @@ fn scattered_shapes() -> Vec<Shape> {
     let subject = Kind::EverySecondFree.make()(PAGES);
     let mut with_new = subject.volume.clone();
     done(&mut with_new, &create(b"new"));
-    let new = calls::find(&with_new, b"new").expect("the name stands");
+    let new = calls::find(&with_new, ROOT, b"new").expect("the name stands");
     let shape = |log: &str, volume: Vec<u8>, file: u64| {
         let name = format!("scattered write, 4,096 bytes in nine pieces, {log}");
         let mut shape = Shape::new(&name, volume, move |volume, list| {
@@ -242,7 +290,7 @@ fn upkeep_shapes() -> Vec<Shape> {
         Shape::new(
             "clean, the directory's log: 8 names",
             with_files(8),
-            |volume, list| calls::clean(volume, 0, list),
+            |volume, list| calls::clean(volume, ROOT, list),
         ),
         Shape::new(
             "recover, two entries open",
@@ -324,13 +372,14 @@ const BESIDE: &[Beside] = &[
         how: "divided here: 6 us to 18 us where each clflush takes 800 ns more; source 001, \"Sensitivity to NVM Characteristics\"",
     },
     Beside {
-        what: "journal bytes of a rename over a file",
-        ours: Ours::Counted("rename, over another file's last name", |counts| {
-            8 * counts.journal
-        }),
+        what: "journal bytes of a rename over a file, across two folders",
+        ours: Ours::Counted(
+            "move over another file's last name, room in both log pages",
+            |counts| 8 * counts.journal,
+        ),
         system: "NOVA",
         theirs: 64,
-        how: "four inodes, 16 bytes each, across two folders; source 000, section 3.2.2",
+        how: "four inodes, 16 bytes each; source 000, section 3.2.2",
     },
     Beside {
         what: "journal bytes for one word",
@@ -403,7 +452,7 @@ mod tests {
     fn counts_are_those_of_the_cases() {
         let mut volume = formatted(16, 8);
         let calls = [
-            (create(b"A1"), 46),
+            (create(b"A1"), 48),
             (write(1, 510, b"text"), 280),
             (samples::set_size(1, 100), 166),
             (samples::clean(1), 40),
@@ -423,6 +472,20 @@ mod tests {
         let counts = Counts::of(&list);
         assert_eq!((counts.stores, counts.lines, counts.fences), (5, 4, 2));
         assert_eq!(counts.journal, 3);
+    }
+
+    /// Two words for each store and each fence. Create: an entry, a head or a link, three words of the new inode, two journal pairs, two
+    /// targets and the journal's two positions. A move over a last name: two entries, two links, three pairs, three targets, two positions.
+    #[test]
+    fn longest_lists_of_create_and_rename() {
+        let words = |shape: &Shape| shape.counts().expect("done").words();
+        let shapes: Vec<Shape> = naming_shapes().into_iter().chain(folder_shapes()).collect();
+        let longest = |call: &str| {
+            let named = shapes.iter().filter(|shape| shape.name.starts_with(call));
+            named.map(words).max()
+        };
+        assert_eq!(longest("create"), Some(2 * (8 + 1 + 3 + 4 + 2 + 2 + 4)));
+        assert_eq!(longest("move"), Some(2 * (16 + 2 + 6 + 3 + 2 + 4)));
     }
 
     #[test]

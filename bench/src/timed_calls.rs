@@ -2,6 +2,7 @@
 
 use crate::timing::{Effort, Time};
 use crate::volumes::{Kind, Subject};
+use calls::layout::ROOT;
 use calls::Refusal;
 use std::fmt::Debug;
 use std::hint::black_box;
@@ -63,22 +64,24 @@ macro_rules! timed {
 timed! {
     /// The calls that are timed on every volume, in the order of the tables.
     CALLS;
-    find: |on, library| library::find(&on.volume, &on.name);
+    find: |on, library| library::find(&on.volume, ROOT, &on.name);
     size: |on, library| library::size(&on.volume, on.inode);
     read: |on, library| library::read(&on.volume, on.file, 0, &mut on.buffer);
-    kth_name: |on, library| library::kth_name(&on.volume, on.names - 1, &mut on.buffer);
+    kth_name: |on, library| library::kth_name(&on.volume, ROOT, on.names - 1, &mut on.buffer);
+    total: |on, library| library::total(&on.volume, ROOT);
     free_count: |on, library| library::free_count(&on.volume);
     gaps: |on, library| library::gaps(&on.volume, &mut on.room);
     format: |on, library| library::format(&mut on.volume, on.pages, on.inodes);
     carry_out: |on, library| library::carry_out(&mut on.volume, &on.list, on.list.len() as u64);
-    create: |on, library| library::create(&on.volume, NEW, &mut on.room);
-    link: |on, library| library::link(&on.volume, &on.name, NEW, &mut on.room);
-    unlink: |on, library| library::unlink(&on.volume, &on.name, &mut on.room);
-    rename: |on, library| library::rename(&on.volume, &on.name, NEW, &mut on.room);
+    create: |on, library| library::create(&on.volume, ROOT, NEW, &mut on.room);
+    create_folder: |on, library| library::create_folder(&on.volume, ROOT, NEW, &mut on.room);
+    link: |on, library| library::link(&on.volume, ROOT, &on.name, ROOT, NEW, &mut on.room);
+    unlink: |on, library| library::unlink(&on.volume, ROOT, &on.name, &mut on.room);
+    rename: |on, library| library::rename(&on.volume, ROOT, &on.name, ROOT, NEW, &mut on.room);
     write: |on, library| library::write(&on.volume, on.file, 0, &on.buffer, &mut on.room);
     set_size: |on, library| library::set_size(&on.volume, on.file, 100, &mut on.room);
     clean: |on, library| library::clean(&on.volume, on.file, &mut on.room);
-    cleaned_names: |on, library| library::clean(&on.volume, 0, &mut on.room);
+    cleaned_names: |on, library| library::clean(&on.volume, ROOT, &mut on.room);
     recover: |on, library| library::recover(&on.open, &mut on.room);
 }
 

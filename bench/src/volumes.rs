@@ -2,7 +2,7 @@
 
 use calls::list::FENCE;
 use reference::judge;
-use reference::layout::{set_word, word};
+use reference::layout::{head_word, set_word, tail_word, word, ROOT};
 use samples::{
     create, done, entry_add, entry_remove, entry_write, formatted, put_log, write, zero_page,
 };
@@ -68,7 +68,7 @@ pub struct Subject {
     /// Its page count and inode count.
     pub pages: u64,
     pub inodes: u64,
-    /// How many names stand.
+    /// How many names stand in the root.
     pub names: u64,
     /// The last name, and the inode that it leads to.
     pub name: Vec<u8>,
@@ -88,12 +88,13 @@ impl Subject {
     /// The arguments for an accepted volume, with the compiled calls' answers checked.
     fn new(volume: Vec<u8>) -> Subject {
         let judged = judge(&volume).expect("the volume is accepted");
-        let (name, inode) = *judged.names.last().expect("a name stands");
+        let names = &judged.folders[&ROOT];
+        let (name, inode) = *names.last().expect("a name stands");
         let largest = judged.files.iter().max_by_key(|(_, file)| file.size);
         let subject = Subject {
             pages: judged.sizes.pages(),
             inodes: judged.sizes.inodes(),
-            names: judged.names.len() as u64,
+            names: names.len() as u64,
             name: name.to_vec(),
             inode,
             file: largest.map_or(0, |(&file, _)| file),
@@ -103,7 +104,7 @@ impl Subject {
             room: vec![0; 4_096],
             volume: volume.clone(),
         };
-        assert_eq!(calls::find(&volume, name), Ok(inode));
+        assert_eq!(calls::find(&volume, ROOT, name), Ok(inode));
         assert_eq!(calls::free_count(&volume), reference::free_count(&volume));
         assert_eq!(in_gaps(&volume), calls::free_count(&volume));
         subject
@@ -120,7 +121,7 @@ fn in_gaps(volume: &[u8]) -> calls::Answer {
 /// A volume with the directory's head and tail in the journal, and other values in their words.
 pub fn opened(volume: &[u8]) -> Vec<u8> {
     let mut open = volume.to_vec();
-    for (target, place) in [(65, 0), (66, 1)] {
+    for (target, place) in [(head_word(ROOT), 0), (tail_word(ROOT), 1)] {
         set_word(&mut open, 16 + 2 * place, target);
         set_word(&mut open, 17 + 2 * place, word(volume, target));
         set_word(&mut open, target, 0);
@@ -187,7 +188,7 @@ fn used_in(pages: u64, log: u64, is_used: impl Fn(u64) -> bool) -> Subject {
     let left = own.len();
     let files = (inodes as usize - 1).min(223).min(left / 2);
     let entries = directory(7 * log.len() as u64, files as u64, files as u64);
-    put_log(&mut volume, 0, log, &entries);
+    put_log(&mut volume, ROOT, log, &entries);
     let (firsts, last) = own.split_at(left / files * (files - 1));
     let parts = firsts.chunks(left / files).chain([last]);
     for (file, part) in (1..).zip(parts) {
@@ -233,7 +234,7 @@ fn long_directory(pages: u64) -> Subject {
     let log: Vec<u64> = (2..pages).collect();
     let entries = 7 * log.len() as u64;
     let standing = 224.min(entries / 4);
-    put_log(&mut volume, 0, &log, &directory(entries, standing, 7));
+    put_log(&mut volume, ROOT, &log, &directory(entries, standing, 7));
     for inode in 1..8 {
         put_log(&mut volume, inode, &[], &[]);
     }

@@ -26,11 +26,9 @@ static void gaps(const char *what, size_t words, int64_t answer, const uint64_t 
     check(memcmp(pairs, expected, sizeof pairs) == 0, what);
 }
 
-/* Carries out the list of a call that must have something to change. */
-static int landed(int64_t count)
-{
-    return count > 0 && volume_carry_out(volume, VOLUME_LEN, list, LIST_WORDS, (uint64_t)count) == 0;
-}
+/* The volume and the list that a call takes. */
+#define ON volume, VOLUME_LEN
+#define INTO list, LIST_WORDS
 
 int main(void)
 {
@@ -43,8 +41,8 @@ int main(void)
     gaps("one stretch, a list of one word", 1, TOO_MANY_GAPS, NULL);
     gaps("one stretch, a list of one pair", 2, 1, one);
     gaps("one stretch, a longer list", WORDS, 1, one);
-    check(landed(volume_create(volume, VOLUME_LEN, (const uint8_t *)"A1", 2, list, LIST_WORDS)), "create");
-    check(landed(volume_clean(volume, VOLUME_LEN, 0, list, LIST_WORDS)), "clean");
+    check(landed(ON, INTO, volume_create(ON, VOLUME_ROOT, (const uint8_t *)"A1", 2, INTO)), "create");
+    check(landed(ON, INTO, volume_clean(ON, VOLUME_ROOT, INTO)), "clean");
     gaps("two stretches, a list of three words", 3, TOO_MANY_GAPS, NULL);
     gaps("two stretches, a list of two pairs", 4, 2, two);
     gaps("two stretches, a longer list", WORDS, 2, two);

@@ -70,16 +70,25 @@ static void calls_on_a_board(void)
     static uint8_t bytes[4096];
     const uint8_t *volume = (const uint8_t *)memory;
     const uint8_t *name = (const uint8_t *)"A1";
+    const uint64_t folder = 2; /* the inode that create_folder takes */
     const int all = 1000;
 
     memset(bytes, 7, sizeof bytes);
     check(volume_format((uint8_t *)memory, sizeof memory, 64, 16) == 0, "format");
     memcpy(persistent, memory, sizeof memory); /* the fence after format */
-    carry_out("create", volume_create(volume, sizeof memory, name, 2, list, LIST_WORDS), all);
+    carry_out("create", volume_create(volume, sizeof memory, VOLUME_ROOT, name, 2, list, LIST_WORDS), all);
     carry_out("write", volume_write(volume, sizeof memory, 1, 100, bytes, sizeof bytes, list, LIST_WORDS), all);
-    carry_out("unlink, cut after two groups", volume_unlink(volume, sizeof memory, name, 2, list, LIST_WORDS), 2);
+    carry_out("create_folder", volume_create_folder(volume, sizeof memory, VOLUME_ROOT, (const uint8_t *)"F", 1, list, LIST_WORDS), all);
+    carry_out("create in a folder", volume_create(volume, sizeof memory, folder, name, 2, list, LIST_WORDS), all);
+    carry_out("move over a file's last name, cut after two groups",
+              volume_rename(volume, sizeof memory, VOLUME_ROOT, name, 2, folder, name, 2, list, LIST_WORDS), 2);
     carry_out("recover", volume_recover(volume, sizeof memory, list, LIST_WORDS), all);
-    carry_out("unlink", volume_unlink(volume, sizeof memory, name, 2, list, LIST_WORDS), all);
+    carry_out("move over a file's last name",
+              volume_rename(volume, sizeof memory, VOLUME_ROOT, name, 2, folder, name, 2, list, LIST_WORDS), all);
+    carry_out("move back", volume_rename(volume, sizeof memory, folder, name, 2, VOLUME_ROOT, name, 2, list, LIST_WORDS), all);
+    carry_out("unlink, cut after two groups", volume_unlink(volume, sizeof memory, VOLUME_ROOT, name, 2, list, LIST_WORDS), 2);
+    carry_out("recover", volume_recover(volume, sizeof memory, list, LIST_WORDS), all);
+    carry_out("unlink", volume_unlink(volume, sizeof memory, VOLUME_ROOT, name, 2, list, LIST_WORDS), all);
 }
 
 static void wrong_lists(void)

@@ -7,7 +7,8 @@ use Rattle.model.proofs.Tests.{by-bool}
 use Rattle.answer.specs.Meaning.{meaning, numbered}
 use Rattle.answer.specs.declared.Answer.{Answer}
 use Rattle.answer.specs.declared.Answer.the-variants.{Done, Number, ShortMemory, NoVolume, Damaged, JournalOpen, BadName, NotThere}
-use Rattle.answer.specs.declared.Answer.the-variants.{Taken, LongWrite, PastTheEnd, NoInode, DirectoryFull, NoSpace, BadList, TooManyGaps, LastPage}
+use Rattle.answer.specs.declared.Answer.the-variants.{Taken, LongWrite, PastTheEnd, NoInode, DirectoryFull, NoSpace, BadList}
+use Rattle.answer.specs.declared.Answer.the-variants.{TooManyGaps, LastPage, WrongType, NotEmpty, IntoItself}
 use Rattle.answer.proofs.Codes.{others, NoNumber}
 
 -- a refusal is no done answer
@@ -33,6 +34,9 @@ no-number NoSpace x o e = clash _ (some x) e
 no-number BadList x o e = clash _ (some x) e
 no-number TooManyGaps x o e = clash _ (some x) e
 no-number LastPage x o e = clash _ (some x) e
+no-number WrongType x o e = clash _ (some x) e
+no-number NotEmpty x o e = clash _ (some x) e
+no-number IntoItself x o e = clash _ (some x) e
 
 -- what an answer that is no number means is a refusal
 pub refusal-of : {A : Type 0} (r : Answer) (x : model.Answer A) (f : A → Option ℕ) → ((a : A) → (n : ℕ) × (f a ≡ some n)) → NoNumber r

@@ -9,12 +9,13 @@ use mir.Facts.{toZ-pos, toZ-ofZ}
 use Rattle.answer.specs.Meaning.{meaning, refusalOf, codeOf}
 use Rattle.answer.specs.declared.Answer.{Answer}
 use Rattle.answer.specs.declared.Answer.the-variants.{Done, Number, ShortMemory, NoVolume, Damaged, JournalOpen, BadName, NotThere}
-use Rattle.answer.specs.declared.Answer.the-variants.{Taken, LongWrite, PastTheEnd, NoInode, DirectoryFull, NoSpace, BadList, TooManyGaps, LastPage}
+use Rattle.answer.specs.declared.Answer.the-variants.{Taken, LongWrite, PastTheEnd, NoInode, DirectoryFull, NoSpace, BadList}
+use Rattle.answer.specs.declared.Answer.the-variants.{TooManyGaps, LastPage, WrongType, NotEmpty, IntoItself}
 use Rattle.answer.proofs.Answer.{the-type}
 
 -- What the code knows of an answer that is not `Number`: its place among the cases.
 abbrev pub others : List ℕ
-others = 0 ∷ 2 ∷ 3 ∷ 4 ∷ 5 ∷ 6 ∷ 7 ∷ 8 ∷ 9 ∷ 10 ∷ 11 ∷ 12 ∷ 13 ∷ 14 ∷ 15 ∷ 16 ∷ []
+others = 0 ∷ 2 ∷ 3 ∷ 4 ∷ 5 ∷ 6 ∷ 7 ∷ 8 ∷ 9 ∷ 10 ∷ 11 ∷ 12 ∷ 13 ∷ 14 ∷ 15 ∷ 16 ∷ 17 ∷ 18 ∷ 19 ∷ []
 
 abbrev pub NoNumber : Answer → Type 0
 NoNumber r = OneOf others (tagOf the-type r)
@@ -39,22 +40,26 @@ no-number NoSpace o = refl
 no-number BadList o = refl
 no-number TooManyGaps o = refl
 no-number LastPage o = refl
+no-number WrongType o = refl
+no-number NotEmpty o = refl
+no-number IntoItself o = refl
 
 -- the number of a case that is known
-pub numbered-so : (a b : Answer) (n : ℕ) → a ≡ b → n ≡ refusalOf (meaning b) → n ≤ 15 → (n ≡ refusalOf (meaning a)) × (n ≤ 15)
+pub numbered-so : (a b : Answer) (n : ℕ) → a ≡ b → n ≡ refusalOf (meaning b) → n ≤ 18 → (n ≡ refusalOf (meaning a)) × (n ≤ 18)
 numbered-so a b n e h l = (rw e h, l)
 
-minus-is : (n : ℕ) → n ≤ 15 → pos 0 -ℤ toZ w64 n ≡ negℤ (pos n)
+minus-is : (n : ℕ) → n ≤ 18 → pos 0 -ℤ toZ w64 n ≡ negℤ (pos n)
 minus-is n h = rw (toZ-pos w64 {n = n} (omega arith)) (+ℤ-idl (negℤ (pos n)))
 
-minus-small : (n : ℕ) → n ≤ 15 → SFits w64 (negℤ (pos n))
+minus-small : (n : ℕ) → n ≤ 18 → SFits w64 (negℤ (pos n))
 minus-small zero h = record { sfits = omega arith }
 minus-small (suc n) h = record { sfits = omega arith }
 
-pub minus-fits : (n : ℕ) → n ≤ 15 → SFits w64 (pos 0 -ℤ toZ w64 n)
+pub minus-fits : (n : ℕ) → n ≤ 18 → SFits w64 (pos 0 -ℤ toZ w64 n)
 minus-fits n h = rw (minus-is n h) (minus-small n h)
 
-pub code-told : (a : Answer) (n : ℕ) → NoNumber a → n ≡ refusalOf (meaning a) → n ≤ 15 → toZ w64 (ofZ w64 (pos 0 -ℤ toZ w64 n)) ≡ codeOf (meaning a)
+pub code-told : (a : Answer) (n : ℕ) → NoNumber a → n ≡ refusalOf (meaning a) → n ≤ 18
+    → toZ w64 (ofZ w64 (pos 0 -ℤ toZ w64 n)) ≡ codeOf (meaning a)
 code-told a n o e h = toZ-ofZ (minus-fits n h) ∙ minus-is n h ∙ rw e (sym (no-number a o))
 
 -- a number that an i64 holds, and one that it does not

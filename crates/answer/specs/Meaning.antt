@@ -7,10 +7,11 @@ use lib.IntN.{ℤ, pos, negℤ}
 use Rattle.model.specs.Answer as model
 use Rattle.model.specs.Answer.{refused, done, Nothing, mapAnswer, shortMemory, noVolume, damaged, journalOpen, badName, notThere}
 use Rattle.model.specs.Answer.{taken, longWrite, pastTheEnd, noInode, directoryFull, noSpace, badList, tooManyGaps, lastPage}
+use Rattle.model.specs.Answer.{wrongType, notEmpty, intoItself}
 use Rattle.answer.specs.declared.Answer.{Answer}
 use Rattle.answer.specs.declared.Answer.the-variants.{Done, Number, ShortMemory, NoVolume, Damaged, JournalOpen, BadName, NotThere}
 use Rattle.answer.specs.declared.Answer.the-variants.{Taken, LongWrite, PastTheEnd, NoInode, DirectoryFull, NoSpace, BadList}
-use Rattle.answer.specs.declared.Answer.the-variants.{TooManyGaps, LastPage}
+use Rattle.answer.specs.declared.Answer.the-variants.{TooManyGaps, LastPage, WrongType, NotEmpty, IntoItself}
 
 -- A refusal by its number of "What the screen says"; done with a number, or with none. No two cases mean the same.
 abbrev pub meaning : Answer → model.Answer (Option ℕ)
@@ -31,6 +32,9 @@ meaning NoSpace = refused noSpace
 meaning BadList = refused badList
 meaning TooManyGaps = refused tooManyGaps
 meaning LastPage = refused lastPage
+meaning WrongType = refused wrongType
+meaning NotEmpty = refused notEmpty
+meaning IntoItself = refused intoItself
 
 -- the model's answer of a call that answers no number
 abbrev pub plain : model.Answer Nothing → model.Answer (Option ℕ)

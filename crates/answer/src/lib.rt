@@ -39,12 +39,19 @@ pub enum Answer {
     TooManyGaps,
     // 15: the call would take the last free page, which it keeps.
     LastPage,
+    // 16: a folder where a file is wanted, or a file where a folder is; a link to a folder; a rename onto a folder, or of a folder onto
+    // a name that stands.
+    WrongType,
+    // 17: the folder to be unlinked has names.
+    NotEmpty,
+    // 18: a folder would move into itself or beneath itself.
+    IntoItself,
 }
 
 // Answers the number of a refusal, by "What the screen says", and 0 of an answer that is none.
 // Example: refusal(Answer::Damaged) is 3, and refusal(Answer::Number(514)) is 0.
 pub fn refusal(answer: Answer) -> u64
-    ensures { λ r. ⌜ (r ≡ refusalOf (meaning answer)) × (r ≤ 15) ⌝ }
+    ensures { λ r. ⌜ (r ≡ refusalOf (meaning answer)) × (r ≤ 18) ⌝ }
 {
     match answer {
         Answer::Done => 0,
@@ -64,6 +71,9 @@ pub fn refusal(answer: Answer) -> u64
         Answer::BadList => 13,
         Answer::TooManyGaps => 14,
         Answer::LastPage => 15,
+        Answer::WrongType => 16,
+        Answer::NotEmpty => 17,
+        Answer::IntoItself => 18,
     }
 }
 

@@ -2,7 +2,7 @@
 use Rattle.model.proofs.Prelude.{ℕ, _+_, _*_, _/_, _%_, _≤_, _<_, _≡_, _∙_, ap, fun-ext, Bool, true, false, not, List, [], _∷_, _++_, some, arith, zero-add, sub-zero, and-false, eqb, length, drop, eq-eqb, ne-eqb, lt-ltb, le-ltb}
 use Rattle.model.specs.Lists.{indexOf}
 use Rattle.model.specs.Words.{word}
-use Rattle.model.specs.Layout.{validWord, headWord, tailWord}
+use Rattle.model.specs.Layout.{validWord, headWord, tailWord, typeWord}
 use Rattle.model.specs.Accept.{isValid, free}
 use Rattle.model.specs.Stores.{Stores, oneWord, noWords, both, onlyIf}
 use Rattle.model.specs.Answer.{done}
@@ -35,7 +35,7 @@ all-first a ws e = rw (e, sub-zero)
 pub one-log-ready : (v b : List ℕ) (a : Append) (ws ds l : List ℕ) → Closed v b → a .second ≡ 0 → a .moved ≡ 0 → a .log < word v 1
     → isValid (word v) (a .log) ≡ true → a .other < word v 1 → (a .anew ≡ false → 0 < length ws / 8 + length ds / 64) → length ws < 4294967296
     → 64 * (length ds / 64) ≡ length ds → length ds / 64 ≤ 9 → a .file < 4294967296
-    → 18 * (length ws / 8 + length ds / 64) + 2 * length ds + 44 ≤ length l → Ready v b a ws ds l
+    → 18 * (length ws / 8 + length ds / 64) + 2 * length ds + 46 ≤ length l → Ready v b a ws ds l
 one-log-ready v b a ws ds l c es em h val o entry few whole nine file room =
     let n : 0 < word v 1 = omega arith in
     record {
@@ -62,7 +62,8 @@ asked-only a ws m e f = rw (all-first a ws m, e, f)
 
 -- an inode that becomes valid, one that is let go, and none
 module _ (a : Append) where
-  pub zeroed-new : (a .other ≡ 0 → ⊥) → a .valid ≡ 1 → zeroed a ≡ both (oneWord (headWord (a .other)) 0) (oneWord (tailWord (a .other)) 0)
+  pub zeroed-new : (a .other ≡ 0 → ⊥) → a .valid ≡ 1
+      → zeroed a ≡ both (oneWord (headWord (a .other)) 0) (both (oneWord (tailWord (a .other)) 0) (oneWord (typeWord (a .other)) (a .kind)))
   unfolding zeroed onlyIf
   zeroed-new e f = rw (ne-eqb (a .other) 0 e, ne-eqb (a .valid) 0 (omega arith))
 

@@ -2,7 +2,7 @@
 use Rattle.model.proofs.Prelude.{ℕ, zero, suc, _+_, _*_, _-_, _/_, _≤_, _<_, _%_, _≡_, refl, sym, ap, _∙_, fun-ext, Bool, true, false, cond, _&&_, not, List, [], _∷_, _++_, append-nil, none, arith, add-one, add-zero, zero-add, eqb, length, getD, take, drop, drop-cons, drop-of-length-le, length-append, length-take-le, take-append-seam, eq-eqb, ne-eqb, lt-ltb, le-ltb}
 use Rattle.model.specs.Words.{Mem}
 use Rattle.model.specs.Lists.{indexOf}
-use Rattle.model.specs.Layout.{validWord, headWord, tailWord}
+use Rattle.model.specs.Layout.{validWord, headWord, tailWord, typeWord}
 use Rattle.model.specs.Stores.{Stores, oneWord, run, both}
 use Rattle.model.specs.Calls.{Change, layPages}
 use Rattle.model.proofs.Tests.{by-eq, by-lt, inside, outside}
@@ -56,11 +56,13 @@ module _ (l : List ℕ) (end : ℕ) (a : Append) where
   unfolding zeroed
   let-go e f = added-not l 0 end _ _ (rw (ne-eqb (a .other) 0 e, eq-eqb (a .valid) 0 f))
 
-  pub new-put : (i j e r : ℕ) (m o : List ℕ) → (a .other ≡ 0 → ⊥) → (a .valid ≡ 0 → ⊥) → i ≡ headWord (a .other) → j ≡ tailWord (a .other)
-      → Added l 0 end (oneWord i 0) e m → Added m 0 e (oneWord j 0) r o → Added l 0 end (zeroed a) r o
+  pub new-put : (i j t e d r : ℕ) (m o q : List ℕ) → (a .other ≡ 0 → ⊥) → (a .valid ≡ 0 → ⊥) → i ≡ headWord (a .other)
+      → j ≡ tailWord (a .other) → t ≡ typeWord (a .other) → Added l 0 end (oneWord i 0) e m → Added m 0 e (oneWord j 0) d o
+      → Added o 0 d (oneWord t (a .kind)) r q → Added l 0 end (zeroed a) r q
   unfolding zeroed
-  new-put i j e r m o f g h k x y =
-      added-if l 0 end _ _ r o (rw (ne-eqb (a .other) 0 f, ne-eqb (a .valid) 0 g)) (added-both (rw h at x) (rw k at y))
+  new-put i j t e d r m o q f g h k n x y z =
+      added-if l 0 end _ _ r q (rw (ne-eqb (a .other) 0 f, ne-eqb (a .valid) 0 g))
+      (added-both (rw h at x) (added-both (rw k at y) (rw n at z)))
 
 -- `put_data`: the words of the first page, and then those of the others.
 

@@ -2,7 +2,7 @@
 use Rattle.model.proofs.Prelude.{ℕ, _+_, _*_, _-_, _/_, _≤_, _<_, _≡_, refl, sym, ap, _∙_, Bool, true, false, cond, not, List, [], _∷_, _++_, ⊎-elim, some, arith, add-zero, zero-add, sub-zero, ltb, eqb, length, getD, take, drop, replicate, length-append, length-map, length-replicate, length-take-le, length-drop, take-all, eq-eqb, ne-eqb, lt-ltb, ltb-true, ltb-false, not-false}
 use Rattle.model.specs.Lists.{bit, sumBelow, lowestFew, indexOf, has}
 use Rattle.model.specs.Words.{Mem, word}
-use Rattle.model.specs.Layout.{headWord, tailWord}
+use Rattle.model.specs.Layout.{headWord, tailWord, typeWord}
 use Rattle.model.specs.Stretches.{stretches}
 use Rattle.model.specs.Accept.{isValid, free, freeCount}
 use Rattle.model.specs.Answer.{done, firstRefusal, noSpace}
@@ -480,13 +480,13 @@ module _ (v b : List ℕ) (a : Append) (ws ds l : List ℕ) (y : Ready v b a ws 
 
           -- h is how far the second log is laid, and m₃ the list then
           module _ (o : ℕ) (h : Laid) (m₃ : List ℕ) (w : SecondLaid k s m₂ (startAt e t₂ (i .from)) o w₃ h m₃) where
-            pub new-asks : (a .other < 4294967296) × (h .end + 4 ≤ length m₃)
+            pub new-asks : (a .other < 4294967296) × (h .end + 6 ≤ length m₃)
             new-asks =
                 let q = split .2 in
                 (omega (arith, few .1, y .other), omega (arith, count-is, few-writes, y .room, y .whole, short, y .moved, d .end, d .stores .long, w .end, w .stores .long))
 
             -- z of the words cs commit, behind index e₂
-            pub commit-asks : (e₂ z h₀ t₀ t₃ : ℕ) (m₄ c₀ cs : List ℕ) (s₂ : Stores) → Added m₃ 0 (h .end) s₂ e₂ m₄ → e₂ ≤ h .end + 4
+            pub commit-asks : (e₂ z h₀ t₀ t₃ : ℕ) (m₄ c₀ cs : List ℕ) (s₂ : Stores) → Added m₃ 0 (h .end) s₂ e₂ m₄ → e₂ ≤ h .end + 6
                 → Emitted c₀ 0 (pairsOf (committing a h₀ t₀ t₃)) z cs → 8 ≤ length c₀ → z ≤ 8
                 → Pairs v (take z cs) × (2 ≤ length (take z cs)) × (e₂ + 3 * length (take z cs) + 12 ≤ length m₄)
             commit-asks e₂ z h₀ t₀ t₃ m₄ c₀ cs s₂ p q g room most =
@@ -524,7 +524,9 @@ module _ (v b : List ℕ) (a : Append) (ws ds l : List ℕ) (y : Ready v b a ws 
           let M : ℕ → ℕ → Type 0 = λ w x. w < 64 * P in
           let n = few .2 in
           let j = y .other in
-          only-if _ (λ e. only-both (only-word M (headWord (a .other)) 0 (omega arith)) (only-word M (tailWord (a .other)) 0 (omega arith)))
+          only-if _ (λ e.
+          only-both (only-word M (headWord (a .other)) 0 (omega arith))
+          (only-both (only-word M (tailWord (a .other)) 0 (omega arith)) (only-word M (typeWord (a .other)) (a .kind) (omega arith))))
 
       second-low : (g : Laid) → g .tail ≡ t₂ → (es : List (List ℕ)) → Only (λ w. w < 64 * P) (secondStores k s g (a .second) es)
       unfolding secondStores headOf

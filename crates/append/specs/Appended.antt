@@ -6,7 +6,7 @@ use mathlib.Core.List.{List, [], _∷_, _++_}
 use lib.Dec.{eqb}
 use lib.ListN.{length}
 use Rattle.model.specs.Words.{Mem, word}
-use Rattle.model.specs.Layout.{validWord, headWord, tailWord}
+use Rattle.model.specs.Layout.{validWord, headWord, tailWord, typeWord}
 use Rattle.model.specs.Accept.{isValid}
 use Rattle.model.specs.Stores.{Stores, oneWord, both, onlyIf, storeList}
 use Rattle.model.specs.Answer.{Answer, done, firstRefusal}
@@ -43,11 +43,11 @@ pub record SecondLaid (b : List ℕ) (s : Sizes) (l : List ℕ) (g : Laid) (k : 
   pub stores : Added l 0 (g .end) (secondStores b s g k (entriesOf ws 0 (length ws / 8))) (r .end) m
   pub tail : r .tail ≡ tailBehind b s g (length ws / 8)
 
--- a new file's head and tail
+-- a new inode's head, tail and type
 unfoldable pub zeroed : Append → Stores
 zeroed a =
     onlyIf (not (eqb (a .other) 0) && not (eqb (a .valid) 0))
-    (both (oneWord (headWord (a .other)) 0) (oneWord (tailWord (a .other)) 0))
+    (both (oneWord (headWord (a .other)) 0) (both (oneWord (tailWord (a .other)) 0) (oneWord (typeWord (a .other)) (a .kind))))
 
 -- changes as pairs of words
 unfoldable pub pairsOf : List Change → List ℕ
@@ -116,4 +116,4 @@ pub record Ready (v b : List ℕ) (a : Append) (ws ds l : List ℕ) : Type 0 whe
   pub whole : 64 * (length ds / 64) ≡ length ds
   pub nine : length ds / 64 ≤ 9
   pub file : a .file < 4294967296
-  pub room : 18 * (length ws / 8 + length ds / 64) + 2 * length ds + 44 ≤ length l
+  pub room : 18 * (length ws / 8 + length ds / 64) + 2 * length ds + 46 ≤ length l

@@ -23,16 +23,18 @@ use layout::Sizes;
 // What is appended to the log of inode `log`, or is the whole of it where the log is written `anew`. Entries and data are given beside
 // it; the last `moved` entries go to the log of inode `second` instead, which goes on: a valid inode, also where none are moved. The data
 // are file pages from page `file` on, of a file that has `size` bytes then. Together with the tails the valid word of inode `other`, if
-// that is not 0, becomes `valid`: 1 makes a file that is empty, 0 lets it go. The last free page is not taken where it `keeps` that page.
+// that is not 0, becomes `valid`: 1 makes an inode with an empty log and type `kind`, 0 lets it go. The last free page is not taken where
+// it `keeps` that page.
 pub struct Append {
     pub log: usize,
-    pub anew: bool,
     pub file: u64,
     pub size: u64,
     pub second: usize,
     pub moved: usize,
     pub other: usize,
     pub valid: u64,
+    pub kind: u64,
+    pub anew: bool,
     pub keeps: bool,
 }
 
@@ -131,11 +133,11 @@ fn lay_second(
     }
 }
 
-// Puts head and tail of a new file, zeros, into the first group, which ends at end. Answers the index behind the group.
-// Example: where inode 1 becomes valid it puts 73, 0 and 74, 0.
+// Puts head and tail of a new inode, zeros, and its type into the first group, which ends at end. Answers the index behind the group.
+// Example: where inode 1 becomes a valid folder it puts 73, 0 and 74, 0 and 75, 1.
 fn put_new(list: &mut [u64], end: usize, a: Append) -> usize
-    requires { ⌜ (a .other < 2 ^ 32) × (end + 4 ≤ length (now list)) ⌝ }
-    ensures { λ r. ⌜ Added (now (list .entry)) 0 end (zeroed a) r (now (list .exit)) × (r ≤ end + 4) ⌝ }
+    requires { ⌜ (a .other < 2 ^ 32) × (end + 6 ≤ length (now list)) ⌝ }
+    ensures { λ r. ⌜ Added (now (list .entry)) 0 end (zeroed a) r (now (list .exit)) × (r ≤ end + 6) ⌝ }
 {
     if a.other == 0 {
         return end;
@@ -144,7 +146,8 @@ fn put_new(list: &mut [u64], end: usize, a: Append) -> usize
         return end;
     }
     let e = stores::put(list, 0, end, layout::head_word(a.other) as u64, 0);
-    stores::put(list, 0, e, layout::tail_word(a.other) as u64, 0)
+    let f = stores::put(list, 0, e, layout::tail_word(a.other) as u64, 0);
+    stores::put(list, 0, f, layout::type_word(a.other) as u64, a.kind)
 }
 
 // Puts a word's index and its new value behind the words to commit, which end at index at, if the word changes. Answers the index behind

@@ -8,18 +8,18 @@ use lib.ListN.{length, replicate}
 use lib.Dec.{eqb}
 use Rattle.model.specs.Lists.{has, all, sameList, valuesFrom}
 use Rattle.model.specs.Words.{Mem, word}
-use Rattle.model.specs.Layout.{root, listWords}
+use Rattle.model.specs.Layout.{listWords}
 use Rattle.model.specs.Journal.{view}
 use Rattle.model.specs.Log.{pages}
 use Rattle.model.specs.State.{fileOf, namesOf}
 use Rattle.model.specs.FileMap.{Call}
 use Rattle.model.specs.Power.{Power, held, cut, leaves}
 use Rattle.model.specs.Answer.{Answer, refused, done, mapAnswer}
-use Rattle.model.specs.Public.{format, fills, size, read, countFree}
+use Rattle.model.specs.Public.{format, fills, size, read, total, countFree}
 use Rattle.model.specs.Listing.{listingOf}
 use Rattle.cases.specs.Table as Table
 use Rattle.cases.specs.Table.{Step, formats, calls, cuts, stores, Expected, isDone, refuses, Fact, wordIs, freeIs, namesAre, sizeIs}
-use Rattle.cases.specs.Table.{dataIs, logIs, bytesAre, prints, Row, table}
+use Rattle.cases.specs.Table.{totalIs, dataIs, logIs, bytesAre, prints, Row, table, folderTable}
 
 -- How volumes are held: as a Volume.
 pub record Holding (Volume : Type 0) : Type 0 where
@@ -69,8 +69,9 @@ numberIs (done n) x = eqb n x
 unfoldable pub factHolds : ℕ → Mem → Fact → Bool
 factHolds len m (wordIs i x) = eqb (m i) x
 factHolds len m (freeIs n) = numberIs (countFree len m) n
-factHolds len m (namesAre n) = eqb (length (namesOf (view m) (m 0) (m 1) root)) n
+factHolds len m (namesAre d n) = eqb (length (namesOf (view m) (m 0) (m 1) d)) n
 factHolds len m (sizeIs k n) = numberIs (size len m k) n
+factHolds len m (totalIs d n) = numberIs (total len m d) n
 factHolds len m (dataIs k ps) = sameList (valuesFrom (fileOf (view m) (m 0) (m 1) k .page) 0 (length ps)) ps
 factHolds len m (logIs k ps) = sameList (pages (view m) (m 0) (m 1) k) ps
 factHolds len m (bytesAre k o bs) = sameList (wordsOf (read len m k o (length bs))) bs
@@ -108,6 +109,6 @@ module _ {Volume : Type 0} (H : Holding Volume) where
       let rest = allHold rs (v ∷ vs) in
       cond (answerIs a (r .answer) && all (factHolds (H .len v) (H .mem v)) (r .facts)) rest false
 
--- The claim: cases A to K and M come out, every number of them, from the definition of format on.
+-- The claim: cases A to K and M come out, every number of them, from the definition of format on, and the rows of folders.
 abbrev pub Cases : Type 0
-Cases = allHold asBytes table [] ≡ true
+Cases = (allHold asBytes table [] ≡ true) × (allHold asBytes folderTable [] ≡ true)

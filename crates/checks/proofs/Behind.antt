@@ -1,33 +1,49 @@
--- For the calls by name: the directory's names are those of the table, so that the checks are the model's, and refusal 12 is what is left.
-use Rattle.model.proofs.Prelude.{ℕ, _≡_, refl, true, false, cond, List, [], _++_, length, take}
-use Rattle.model.specs.Lists.{orElse}
+-- For the calls by name: what a call comes to, as the stages in which the code asks. Behind the last of them refusals 12 and 15 are left.
+use Rattle.model.proofs.Prelude.{ℕ, _≡_, refl, _∙_, Bool, true, false, not, cond, _&&_, _||_, List, [], _∷_, some, length}
 use Rattle.model.specs.Words.{Mem, word}
-use Rattle.model.specs.Layout.{root}
 use Rattle.model.specs.Journal.{view}
-use Rattle.model.specs.State.{Names, inodeOf}
-use Rattle.model.specs.FileMap.{create, link, unlink, rename}
-use Rattle.model.specs.Answer.{done, Checks, firstRefusal}
-use Rattle.model.specs.Calls.{checks, action, actionChecks, spaceChecks, createAction, linkAction, unlinkAction, renameAction}
-use Rattle.model.specs.Calls.{isFull, invalidInode, sameInode}
-use Rattle.directory.specs.Places.{standing}
+use Rattle.model.specs.Stores.{storeList}
+use Rattle.model.specs.FileMap.{Call, create, createFolder, link, unlink, rename}
+use Rattle.model.specs.Answer as model
+use Rattle.model.specs.Answer.{done, Checks, firstRefusal, notThere}
+use Rattle.model.specs.Calls.{checks, groups, action, actionChecks, actionGroups, spaceChecks, createAction, linkAction, unlinkAction, renameAction}
+use Rattle.model.specs.Calls.{isAbsent, stands, isFull, sameInode}
+use Rattle.model.specs.Public.{needsClosed}
+use Rattle.model.proofs.Tests.{by-bool}
 use Rattle.answer.specs.Meaning.{meaning, numbered}
 use Rattle.answer.specs.Comes.{Comes, cameTo}
 use Rattle.answer.specs.declared.Answer.{Answer}
 use Rattle.answer.specs.declared.Answer.the-variants.{Number}
-use Rattle.gate.specs.Gated.{rootNames, fillChecks, Gated}
 use Rattle.answer.proofs.Codes.{NoNumber}
-use Rattle.answer.proofs.Checked.{same-number}
-use Rattle.gate.proofs.Lists.{filledWords, ownChecks, stage-refused, stage-behind}
-use Rattle.checks.specs.Names.{freeInode, createFirst, renameFirst, linkFirst, unlinkFirst}
+use Rattle.answer.proofs.Checked.{checks-after, same-refusal, none-refuses}
+use Rattle.answer.proofs.Coming.{comes-told}
+use Rattle.gate.specs.Gated.{fillChecks, Gated}
+use Rattle.gate.proofs.Lists.{filledWords, ownChecks, fill-behind}
+use Rattle.checks.specs.declared.TwoFolders.{TwoFolders}
+use Rattle.checks.specs.declared.Leads.{Leads}
+use Rattle.checks.specs.Names.{createFirst, unlinkFirst, absentIn, givenFirst, Led, areFolders, linkLast, areSame, isOnto, isInto, renameLast}
 
--- r, places and marks are what the gate answered and left
-module _ (v l : List ℕ) (r : Answer) (places marks : List ℕ) (g : Gated v root (fillChecks (length v) (word v) (length l)) r places marks) (n : ℕ) (e : r ≡ Number n) where
-  abbrev found : Names
-  found = standing (word v) (take n places)
+-- One stage: call c comes to y where none of the checks cs holds, and t is what they came to.
+module _ (v l : List ℕ) (c : Call) (cs : Checks) (y : model.Answer (List ℕ)) (q : cameTo v l c ≡ firstRefusal cs y) (x : ℕ) (t : Answer)
+    (h : meaning t ≡ numbered (firstRefusal cs (done x))) where
+  pub told : NoNumber t → Comes (cameTo v l c) l t l
+  told o = comes-told (cameTo v l c) l t o (rw q (same-refusal t cs x h (λ (z : List ℕ). some (length z)) y o))
 
-  same-names : found ≡ rootNames v
-  same-names = g .tables n e .names
+  pub passed : (i : ℕ) → t ≡ Number i → cameTo v l c ≡ y
+  passed i j = q ∙ none-refuses cs x i (rw j at h) y
 
+or-split : {A : Type 0} (a b : Bool) (r s : A) → cond (a || b) r s ≡ cond a r (cond b r s)
+or-split true b r s = refl
+or-split false b r s = refl
+
+not-both : (a b : Bool) → not a || not b ≡ not (a && b)
+not-both true b = refl
+not-both false b = refl
+
+-- r, places, marks and tree are what the gate answered and left
+module _ (v l : List ℕ) (r : Answer) (places marks tree : List ℕ)
+    (g : Gated v (fillChecks (length v) (word v) (length l)) r places marks tree)
+    (n : ℕ) (e : r ≡ Number n) where
   abbrev u : Mem
   u = view (word v)
 
@@ -37,75 +53,45 @@ module _ (v l : List ℕ) (r : Answer) (places marks : List ℕ) (g : Gated v ro
   abbrev N : ℕ
   N = word v 1
 
-  -- Below, t is what the call's first checks answered.
+  -- what call c comes to behind its own checks, of which refusals 12 and 15 are the last
+  abbrev pub filled : Call → model.Answer (List ℕ)
+  filled c =
+      let a = action (word v) P N c in
+      firstRefusal (spaceChecks u P N (a .keeps) (a .appends)) (done (filledWords v c))
 
-  module _ (x : List ℕ) where
-    abbrev created : Checks
-    created = spaceChecks u P N true (createAction u P N root x .appends)
+  came-to : (c : Call) → needsClosed c ≡ true → cameTo v l c ≡ firstRefusal (ownChecks v c) (done (filledWords v c))
+  came-to c o = fill-behind v l c o r places marks tree g n e
 
-    create-own : ownChecks v (create x) ≡ createFirst u N found x ++ created
-    unfolding checks action actionChecks createAction createFirst isFull invalidInode
-    create-own = rw same-names
+  pub create-came : (d : ℕ) (x : List ℕ) → cameTo v l (create d x) ≡ firstRefusal (createFirst v d x) (filled (create d x))
+  unfolding checks action actionChecks createAction
+  create-came d x = came-to (create d x) refl
 
-    module _ (t : Answer) (h : meaning t ≡ numbered (firstRefusal (createFirst u N found x) (done (freeInode u N)))) where
-      pub create-refused : NoNumber t → Comes (cameTo v l (create x)) l t l
-      create-refused o = stage-refused v l (create x) refl r places marks g n e (createFirst u N found x) created create-own (freeInode u N) t h o
+  pub folder-came : (d : ℕ) (x : List ℕ) → cameTo v l (createFolder d x) ≡ firstRefusal (createFirst v d x) (filled (createFolder d x))
+  unfolding checks action actionChecks createAction
+  folder-came d x = came-to (createFolder d x) refl
 
-      pub create-behind : (i : ℕ) → t ≡ Number i → cameTo v l (create x) ≡ firstRefusal created (done (filledWords v (create x)))
-      create-behind i j = stage-behind v l (create x) refl r places marks g n e (createFirst u N found x) created create-own (freeInode u N) t h i j
+  pub unlink-came : (d : ℕ) (x : List ℕ) → cameTo v l (unlink d x) ≡ firstRefusal (unlinkFirst v d x) (filled (unlink d x))
+  unfolding checks action actionChecks unlinkAction
+  unlink-came d x = came-to (unlink d x) refl
 
-      pub create-inode : (i : ℕ) → t ≡ Number i → i ≡ orElse (invalidInode u P N) 0
-      unfolding invalidInode
-      create-inode i j = same-number (createFirst u N found x) (freeInode u N) i (rw j at h)
+  -- f are the folders of the names a and b, which lead to k
+  module _ (f : TwoFolders) (a b : List ℕ) (k : Leads) (w : Led v f a b k) where
+    pub link-came : cameTo v l (link (f .old) a (f .new) b)
+        ≡ firstRefusal (givenFirst v f a b) (firstRefusal (linkLast v f k) (filled (link (f .old) a (f .new) b)))
+    unfolding checks action actionChecks linkAction givenFirst linkLast absentIn areFolders isAbsent stands isFull
+    link-came =
+        came-to (link (f .old) a (f .new) b) refl
+        ∙ rw (checks-after, w .old, w .new, w .count, not-both, or-split)
 
-    abbrev unlinked : Checks
-    unlinked = spaceChecks u P N false (unlinkAction u P N root x .appends)
+    same-is : sameInode u P N (f .old) a (f .new) b ≡ areSame v f k
+    unfolding sameInode areSame areFolders
+    same-is = rw (w .old, w .new)
 
-    unlink-own : ownChecks v (unlink x) ≡ unlinkFirst found x ++ unlinked
-    unfolding checks action actionChecks unlinkAction unlinkFirst
-    unlink-own = rw same-names
-
-    module _ (t : Answer) (h : meaning t ≡ numbered (firstRefusal (unlinkFirst found x) (done (inodeOf found x)))) where
-      pub unlink-refused : NoNumber t → Comes (cameTo v l (unlink x)) l t l
-      unlink-refused o = stage-refused v l (unlink x) refl r places marks g n e (unlinkFirst found x) unlinked unlink-own (inodeOf found x) t h o
-
-      pub unlink-behind : (i : ℕ) → t ≡ Number i → cameTo v l (unlink x) ≡ firstRefusal unlinked (done (filledWords v (unlink x)))
-      unlink-behind i j = stage-behind v l (unlink x) refl r places marks g n e (unlinkFirst found x) unlinked unlink-own (inodeOf found x) t h i j
-
-      pub unlink-inode : (i : ℕ) → t ≡ Number i → i ≡ inodeOf (rootNames v) x
-      unlink-inode i j = rw (← same-names) (same-number (unlinkFirst found x) (inodeOf found x) i (rw j at h))
-
-  module _ (x y : List ℕ) where
-    abbrev linked : Checks
-    linked = spaceChecks u P N true (linkAction u P N root x y .appends)
-
-    link-own : ownChecks v (link x y) ≡ linkFirst found x y ++ linked
-    unfolding checks action actionChecks linkAction linkFirst isFull
-    link-own = rw same-names
-
-    module _ (t : Answer) (h : meaning t ≡ numbered (firstRefusal (linkFirst found x y) (done (inodeOf found x)))) where
-      pub link-refused : NoNumber t → Comes (cameTo v l (link x y)) l t l
-      link-refused o = stage-refused v l (link x y) refl r places marks g n e (linkFirst found x y) linked link-own (inodeOf found x) t h o
-
-      pub link-behind : (i : ℕ) → t ≡ Number i → cameTo v l (link x y) ≡ firstRefusal linked (done (filledWords v (link x y)))
-      link-behind i j = stage-behind v l (link x y) refl r places marks g n e (linkFirst found x y) linked link-own (inodeOf found x) t h i j
-
-      pub link-inode : (i : ℕ) → t ≡ Number i → i ≡ inodeOf (rootNames v) x
-      link-inode i j = rw (← same-names) (same-number (linkFirst found x y) (inodeOf found x) i (rw j at h))
-
-    abbrev renamed : Checks
-    renamed = cond (sameInode u P N root x y) [] (spaceChecks u P N false (renameAction u P N root x y .appends))
-
-    rename-own : ownChecks v (rename x y) ≡ renameFirst found x y ++ renamed
-    unfolding checks action actionChecks renameAction renameFirst
-    rename-own = rw same-names
-
-    module _ (t : Answer) (h : meaning t ≡ numbered (firstRefusal (renameFirst found x y) (done (inodeOf found x)))) where
-      pub rename-refused : NoNumber t → Comes (cameTo v l (rename x y)) l t l
-      rename-refused o = stage-refused v l (rename x y) refl r places marks g n e (renameFirst found x y) renamed rename-own (inodeOf found x) t h o
-
-      pub rename-behind : (i : ℕ) → t ≡ Number i → cameTo v l (rename x y) ≡ firstRefusal renamed (done (filledWords v (rename x y)))
-      rename-behind i j = stage-behind v l (rename x y) refl r places marks g n e (renameFirst found x y) renamed rename-own (inodeOf found x) t h i j
-
-      pub rename-inode : (i : ℕ) → t ≡ Number i → i ≡ inodeOf (rootNames v) x
-      rename-inode i j = rw (← same-names) (same-number (renameFirst found x y) (inodeOf found x) i (rw j at h))
+    pub rename-came : cameTo v l (rename (f .old) a (f .new) b)
+        ≡ firstRefusal (givenFirst v f a b) (firstRefusal ((absentIn v (f .old) (k .old), notThere) ∷ [])
+        (cond (areSame v f k) (done []) (firstRefusal (renameLast v f k) (filled (rename (f .old) a (f .new) b)))))
+    unfolding checks action actionChecks renameAction groups actionGroups storeList givenFirst renameLast absentIn areFolders isOnto isInto isAbsent stands isFull
+    rename-came =
+        by-bool (areSame v f k)
+        (λ s. came-to (rename (f .old) a (f .new) b) refl ∙ rw (same-is, s, w .old, or-split))
+        (λ s. came-to (rename (f .old) a (f .new) b) refl ∙ rw (same-is, s, w .old, w .new, w .count, not-both, or-split))

@@ -1,3 +1,5 @@
--- The cases of the four functions, and for callers: what a call comes to behind its first checks.
-mod Cases
+-- Volumes says what an accepted volume gives, Cases has the cases of the functions, and Behind, for callers, what a call comes to behind
+-- its first checks.
+pub mod Volumes
+pub mod Cases
 pub mod Behind

@@ -2,7 +2,6 @@
 use Rattle.model.proofs.Prelude.{ℕ, zero, suc, _+_, _-_, _*_, _/_, _≤_, _<_, _≡_, refl, _∙_, fun-ext, Bool, true, false, cond, not, _&&_, List, [], _∷_, map, none, some, arith, sub-one, lt-ltb, le-ltb, not-true, not-false, eqb, length}
 use Rattle.model.specs.Lists.{has}
 use Rattle.model.specs.Words.{Mem, word}
-use Rattle.model.specs.Layout.{root}
 use Rattle.model.specs.Journal.{dequeueWord, enqueueWord, targetWord, oldWord, nextPosition, positions, openCount, openPositions, openTargets, isOpen, putBack, view, targetOk, journalOk}
 use Rattle.model.specs.Accept.{accepted}
 use Rattle.model.specs.FileMap.{recover}
@@ -98,7 +97,7 @@ module _ (v l : List ℕ) (h : 4096 ≤ length l) where
   came = rw (le-ltb (length l) 4096 h, checks-after (volumeChecks (length v) (word v)), no-more (word v) (done (filledWords v recover)))
 
   -- r is what the gate answered
-  module _ (r : Answer) (places marks : List ℕ) (g : Gated v root (volumeChecks (length v) (word v)) r places marks) where
+  module _ (r : Answer) (places marks tree : List ℕ) (g : Gated v (volumeChecks (length v) (word v)) r places marks tree) where
     pub recover-refused : NoNumber r → Comes (cameTo v l recover) l r l
     recover-refused o =
         comes-told (cameTo v l recover) l r o (rw came (same-refusal r (volumeChecks (length v) (word v)) _ (g .answer) (λ x. some (length x)) (done (filledWords v recover)) o))
@@ -109,10 +108,10 @@ module _ (v l : List ℕ) (h : 4096 ≤ length l) where
 
       pub close-pairs : (x : ℕ) → Pairs v (dequeueWord ∷ x ∷ [])
       close-pairs x =
-          let s = gate-long v _ r places marks g n e in
+          let s = gate-long v _ r places marks tree g n e in
           record {
             page = s;
-            enqueue = gate-enqueue v _ r places marks g n e;
+            enqueue = gate-enqueue v _ r places marks tree g n e;
             inside = λ i f. let z : i ≡ 0 = omega arith in rw z (omega arith);
           }
 

@@ -4,31 +4,29 @@ ghost use mathlib.Core.Path.{_≡_};
 ghost use Prim.Native.Nat.{_≤_, _<_};
 ghost use lib.ListN.{length};
 ghost use Rattle.model.specs.Words.{word};
-ghost use Rattle.model.specs.Layout.{root};
 ghost use Rattle.model.specs.Journal.{dequeueWord, enqueueWord, view};
 ghost use Rattle.model.specs.FileMap.{clean, recover};
 ghost use Rattle.model.specs.Calls.{cleanEntries, oldValues};
 ghost use Rattle.stores.specs.Added.{Added};
 ghost use Rattle.entries.specs.Table.{Holds};
 ghost use Rattle.answer.specs.Comes.{Fills};
-ghost use Rattle.answer.specs.declared.Answer.the-variants.{Number};
-ghost use Rattle.gate.specs.Gated.{fillChecks, Gated};
-ghost use Rattle.cleaning.specs.Cleanable.{Cleanable};
+ghost use Rattle.cleaning.specs.Cleanable.{Cleanable, Checked};
 use answer::Answer;
 use append::Append;
 use journal::Position;
 use layout::Sizes;
+use names::FolderNames;
 
-// Lays the entries of a clean log of inode k into the table, and answers how many: those of the directory's names, which stand at the
-// first count places, or those of a file.
-// Example: where "a" and "b" are the names, which lead to inodes 3 and 5, clean_entries(v, places, 2, 0, words) is 2, and where file 3
-// has its pages 0 and 1 on data pages 70 and 71, clean_entries(v, places, 2, 3, words) is 1.
+// Lays the entries of a clean log of inode k into the table, and answers how many: those of a folder's names, which stand at the first
+// count places, or those of a file.
+// Example: where "a" and "b" are the names of inode 0, which lead to inodes 3 and 5, clean_entries(v, places, 2, 0, words) is 2, and where
+// file 3 has its pages 0 and 1 on data pages 70 and 71, clean_entries(v, places, 0, 3, words) is 1.
 fn clean_entries(v: &[u8], places: &[u16; 224], count: usize, k: usize, words: &mut [u64]) -> usize
     requires { ⌜ Cleanable (now v) count (now places) k × (length (now words) ≡ 1792) ⌝ }
     ensures { λ r. ⌜ Holds (now (words .entry)) (now (words .exit)) r
         (cleanEntries (view (word (now (v .entry)))) (word (now (v .entry)) 0) (word (now (v .entry)) 1) k) × (r ≤ 224) ⌝ }
 {
-    if k == layout::ROOT {
+    if names::is_directory(v, k) {
         return entries::clean_names(v, places, count, words);
     }
     let sizes = Sizes::of(v);
@@ -37,9 +35,9 @@ fn clean_entries(v: &[u8], places: &[u16; 224], count: usize, k: usize, words: &
     entries::clean_file(&table, size, words)
 }
 
-// Does what clean does behind the gate, which left count names at these places and these marks: fills the list and answers Number with the
-// count of words filled, NotThere or NoSpace.
-// Example: of a volume just formatted with 8 inodes clean_log(v, places, marks, 0, 0, list) is Number(0), and of inode 8 it is NotThere.
+// Does what clean does of a valid inode k, whose names, if it is a folder, stand at the first count places: fills the list and answers
+// Number with the count of words filled, or NoSpace.
+// Example: of a volume just formatted clean_log(v, places, marks, 0, 0, list) is Number(0).
 fn clean_log(
     v: &[u8],
     places: &[u16; 224],
@@ -48,14 +46,9 @@ fn clean_log(
     k: usize,
     list: &mut [u64],
 ) -> Answer
-    requires { ⌜ Gated (now v) root (fillChecks (length (now v)) (word (now v)) (length (now list)))
-        (Number count) (now places) (now marks) ⌝ }
+    requires { ⌜ Cleanable (now v) count (now places) k × Checked (now v) (now list) (now marks) k ⌝ }
     ensures { λ r. ⌜ Fills (now (v .entry)) (now (list .entry)) (clean k) r (now (list .exit)) ⌝ }
 {
-    let sizes = Sizes::of(v);
-    if !names::is_valid(v, k, sizes.inodes) {
-        return Answer::NotThere;
-    }
     if words::word_at(v, layout::tail_word(k)) == 0 {
         return Answer::Number(0);
     }
@@ -71,6 +64,7 @@ fn clean_log(
         moved: 0,
         other: 0,
         valid: 0,
+        kind: layout::FILE_TYPE,
         keeps: false,
     };
     append::make(v, marks, a, &words[..n], &none[..0], list)
@@ -86,11 +80,22 @@ pub fn clean(v: &[u8], inode: u64, list: &mut [u64]) -> Answer
 {
     let mut places = [0u16; 224];
     let mut marks = [0u8; 4096];
-    let gate = gate::filling(v, list.len(), layout::ROOT, &mut places, &mut marks);
+    let mut tree = [0u16; 256];
+    let gate = gate::filling(v, list.len(), &mut places, &mut marks, &mut tree);
     let Answer::Number(count) = gate else {
         return gate;
     };
-    clean_log(v, &places, &mut marks, count as usize, inode as usize, list)
+    let k = inode as usize;
+    let sizes = Sizes::of(v);
+    if !names::is_valid(v, k, sizes.inodes) {
+        return Answer::NotThere;
+    }
+    let root = FolderNames {
+        folder: layout::ROOT,
+        count: count as usize,
+    };
+    let listed = names::turn(v, root, k, &mut places);
+    clean_log(v, &places, &mut marks, listed.count, k, list)
 }
 
 // Puts the targets and the old values of the journal's open entries into the list, as a group, and answers the index behind it.
@@ -122,7 +127,8 @@ pub fn recover(v: &[u8], list: &mut [u64]) -> Answer
     }
     let mut places = [0u16; 224];
     let mut marks = [0u8; 4096];
-    let gate = gate::judged(v, layout::ROOT, &mut places, &mut marks);
+    let mut tree = [0u16; 256];
+    let gate = gate::judged(v, &mut places, &mut marks, &mut tree);
     let Answer::Number(_) = gate else {
         return gate;
     };

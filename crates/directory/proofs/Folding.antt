@@ -1,6 +1,6 @@
 -- The two passes together: where the index holds the whole log, the places listed are those of the log's names; a log that adds more
 -- different names than the large index is to hold leaves more than 224 of them standing.
-use Rattle.model.proofs.Prelude.{ℕ, _+_, _*_, _-_, _^_, _≤_, _<_, _≡_, sym, _∙_, ap, true, false, _&&_, List, [], map, arith, leb, length, getD, replicate, length-map, length-replicate, le-leb, lt-leb, leb-true, eqb-true}
+use Rattle.model.proofs.Prelude.{ℕ, _+_, _*_, _-_, _^_, _≤_, _<_, _≡_, sym, _∙_, ap, true, false, _&&_, List, [], map, arith, leb, length, getD, replicate, length-map, length-replicate, le-leb, lt-leb, leb-true}
 use Rattle.model.specs.Lists.{all, foldl, isSome}
 use Rattle.model.specs.Words.{Mem, word}
 use Rattle.model.specs.Layout.{isDirectory, mostNames}
@@ -42,8 +42,8 @@ module _ (m : Mem) (L b : ℕ) (g : Log) (l : List ℕ) (e : l ≡ replicate (le
   none-in = rw e (none-taken (length l))
 
 -- the large index is empty at first
-pub large-none : _≡_ {A = List ℕ} (replicate 16384 0) (replicate (length (replicate {A = ℕ} 16384 0)) 0)
-large-none = ap (λ (n : ℕ). replicate n 0) (sym (length-replicate {A = ℕ} 16384 0))
+pub large-none : _≡_ {A = List ℕ} (replicate 16256 0) (replicate (length (replicate {A = ℕ} 16256 0)) 0)
+large-none = ap (λ (n : ℕ). replicate n 0) (sym (length-replicate {A = ℕ} 16256 0))
 
 -- What the first pass left of the index.
 pub whole-slots : (m : Mem) (L N b : ℕ) (ws l k : List ℕ) (r : Indexed) → Indexes m L N b ws l r k → r ≡ indexed.Whole → Slots L k
@@ -117,7 +117,8 @@ module _ (v : List ℕ) (L N b : ℕ) (l : List ℕ) (g : Log) (f : FoundLog (wo
 
 -- A log that adds more than 14,448 different names leaves more than 224 standing, or has an entry that no directory's log may hold.
 pub many-names : (v : List ℕ) (L N : ℕ) (g : Log) (r : Fold) (t : List ℕ) (x : Named) → ((i : ℕ) → getD v i 0 < 256) → FoundLog (word v) L g
-    → FoldsWith (word v) L N 14448 16384 g r t → r ≡ Full → x .good ≡ false → Folds (word v) L (namesFit (word v) N g) (logNames (word v) g) x t
+    → FoldsWith (word v) L N 14448 16256 g r t → r ≡ Full → x .good ≡ false
+    → Folds (word v) L (namesFit (word v) N g) (logNames (word v) g) x t
 unfolding namesFit logNames
 many-names v L N g r t x bytes f h q y =
     record { good = y ∙ sym fit; count = λ z. clash (x .good) z y; long = h .long; filled = λ z. clash (x .good) z y; names = λ z. clash (x .good) z y }
@@ -126,7 +127,8 @@ many-names v L N g r t x bytes f h q y =
     fit =
         by-bool (all (nameEntryOk N) (map (entryAt (word v)) (logWords (word v) g)))
         (λ ok.
-        let n = names-many (word v) (λ i. word-lt v i bytes) N 14448 16384 (omega arith) (logWords (word v) g) ok (f .placed) (f .apart) (h .full q) in
+        let n = names-many (word v) (λ i. word-lt v i bytes) N 14448 16256 (omega arith) (logWords (word v) g) ok (f .placed) (f .apart)
+        (h .full q) in
         let a = words-few (7 * g .pages) (word v) (g .start) (g .end) in
         let c = f .inside .few in
         rw (ok, lt-leb (length (foldl nameStep [] (map (entryAt (word v)) (logWords (word v) g)))) 224 (omega arith)))
@@ -138,8 +140,8 @@ fold-done m L N b M g r t x h e = h .done x e
 
 -- The names of a directory by its inode.
 
-pub inode-in : (m : Mem) (L P N d : ℕ) → Ready m L P N → isDirectory (view m) d ≡ true → 64 * d + 576 ≤ L
-inode-in m L P N d r h = let a = r .bytes in let b = r .room in let e = eqb-true d 0 h in omega arith
+pub inode-in : (m : Mem) (L P N d : ℕ) → Ready m L P N → d < N → 64 * d + 576 ≤ L
+inode-in m L P N d r h = let a = r .bytes in let b = r .room in omega arith
 
 module _ (m : Mem) (L P N d : ℕ) (ready : Ready m L P N) (g : Log) (l : LogOf m L P N d g) where
   pub log-found : FoundLog m L g

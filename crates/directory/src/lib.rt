@@ -237,7 +237,7 @@ fn fold_many(v: &[u8], log: Log, inodes: usize, places: &mut [u16; 224]) -> Name
     ensures { λ r. ⌜ Folds (word (now (v .entry))) (length (now (v .entry))) (namesFit (word (now (v .entry))) inodes log)
         (logNames (word (now (v .entry))) log) r (now (places .exit)) ⌝ }
 {
-    let mut index = [0u16; 16384];
+    let mut index = [0u16; 16256];
     let fold = fold_with(v, log, inodes, &mut index, 14448, places);
     match fold {
         Fold::Done(named) => named,
@@ -249,7 +249,7 @@ fn fold_many(v: &[u8], log: Log, inodes: usize, places: &mut [u16; 224]) -> Name
 // entry is none of a directory's, or more than 224 names stand.
 // Example: of a volume just formatted names_of(v, 0, pages, inodes, places) is good and has 0 names.
 pub fn names_of(v: &[u8], d: usize, pages: usize, inodes: usize, places: &mut [u16; 224]) -> Named
-    requires { ⌜ Ready (word (now v)) (length (now v)) pages inodes × (isDirectory (view (word (now v))) d ≡ true)
+    requires { ⌜ Ready (word (now v)) (length (now v)) pages inodes × (d < inodes) × (isDirectory (view (word (now v))) d ≡ true)
         × (isSome (logPages (view (word (now v))) pages inodes d) ≡ true) × (length (now places) ≡ 224) ⌝ }
     ensures { λ r. ⌜ Folds (word (now (v .entry))) (length (now (v .entry)))
         (logOk (view (word (now (v .entry)))) pages inodes d
@@ -259,7 +259,10 @@ pub fn names_of(v: &[u8], d: usize, pages: usize, inodes: usize, places: &mut [u
     let log = log::log_of(v, d, pages, inodes);
     let fold = fold_few(v, log, inodes, places);
     match fold {
-        Fold::Done(named) => named,
+        Fold::Done(named) => Named {
+            good: named.good,
+            count: named.count,
+        },
         Fold::Full => fold_many(v, log, inodes, places),
     }
 }

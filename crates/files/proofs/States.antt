@@ -1,7 +1,8 @@
 -- A file's state by its inode: the entries that the fold met are those of the model, and a table of zeros is the empty file.
-use Rattle.model.proofs.Prelude.{ℕ, _<_, _≡_, _∙_, ap, fun-ext, Bool, true, List, arith, length, replicate, getD-replicate, length-replicate, List·getD-eq-default, ne-eqb}
+use Rattle.model.proofs.Prelude.{ℕ, _≡_, _∙_, ap, fun-ext, Bool, true, false, List, length, replicate, getD-replicate, length-replicate, List·getD-eq-default}
 use Rattle.model.specs.Lists.{isSome}
 use Rattle.model.specs.Words.{Mem}
+use Rattle.model.specs.Layout.{isDirectory}
 use Rattle.model.specs.Journal.{view}
 use Rattle.model.specs.Log.{logPages, entries}
 use Rattle.model.specs.State.{File, emptyFile, fileOf}
@@ -21,12 +22,13 @@ empty-table n =
 pub zeros-long : (w : List ℕ) → w ≡ replicate 128 0 → length w ≡ 128
 zeros-long w e = ap length e ∙ length-replicate {A = ℕ} 128 0
 
-pub fold-is : (m : Mem) (L P N k : ℕ) (g : Log) (x : Folded) (w u : List ℕ) → LogOf m L P N k g → isSome (logPages (view m) P N k) ≡ true → 0 < k
-    → w ≡ replicate 128 0 → FoldsOver (g .pages) N (logEntries m g) w x u → Folds (logOk (view m) P N k) (fileOf (view m) P N k) x u
+pub fold-is : (m : Mem) (L P N k : ℕ) (g : Log) (x : Folded) (w u : List ℕ) → LogOf m L P N k g → isSome (logPages (view m) P N k) ≡ true
+    → isDirectory (view m) k ≡ false → w ≡ replicate 128 0 → FoldsOver (g .pages) N (logEntries m g) w x u
+    → Folds (logOk (view m) P N k) (fileOf (view m) P N k) x u
 unfolding logOk fileOf
 fold-is m L P N k g x w u l s z v f =
     let c : FoldsOver P N (entries (view m) P N k) (replicate 128 0) x u = rw (l .entries-are, v, l .of-pages) at f in
-    rw (ne-eqb k 0 (omega arith), s) (rw (empty-table 128) at c)
+    rw (z, s) (rw (empty-table 128) at c)
 
 -- a log that is good has a walk that ends
 pub log-ends : (u : Mem) (P N k : ℕ) → logOk u P N k ≡ true → isSome (logPages u P N k) ≡ true

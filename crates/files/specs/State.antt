@@ -6,7 +6,7 @@ use mathlib.Core.List.{List}
 use lib.Dec.{ltb, eqb}
 use lib.ListN.{set, getD, length}
 use Rattle.model.specs.Lists.{allBelow, all, foldl}
-use Rattle.model.specs.Entry.{Entry as Full, fileEntryOk}
+use Rattle.model.specs.Entry.{Entry as Full, writeEntry, sizeEntry, addEntry, removeEntry, noEntry, fileEntryOk}
 use Rattle.model.specs.State.{File, fileStep}
 use Rattle.log.specs.Entries.{meant}
 use Rattle.log.specs.declared.Entry.{Entry}
@@ -20,6 +20,14 @@ fileFrom s t = record { size = s; page = λ i. getD t i 0 }
 unfoldable pub filled : (ℕ → ℕ) → List ℕ → ℕ → ℕ → List ℕ
 filled g t i zero = t
 filled g t i (suc n) = filled g (set t i (g i)) (i + 1) n
+
+-- the size that an entry of a file's log leaves the file with
+unfoldable pub sizeIn : Full → ℕ
+sizeIn (writeEntry f d c z) = z
+sizeIn (sizeEntry z) = z
+sizeIn (addEntry i l f) = 0
+sizeIn (removeEntry l f) = 0
+sizeIn noEntry = 0
 
 -- r and u are the size and the table that entry e makes of s and t
 pub record Applied (s : ℕ) (t : List ℕ) (e : Entry) (r : ℕ) (u : List ℕ) : Type 0 where

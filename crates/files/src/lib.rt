@@ -1,12 +1,13 @@
 // A file's state from its log: its size, and the data page of each of its 128 file pages, in a table; 0 is an unmapped
-// page. And whether a file ends as an accepted volume has it. v is the volume, k an inode other than the directory.
+// page. And whether a file ends as an accepted volume has it. v is the volume, k the inode of a file.
 ghost use mathlib.Core.Path.{_≡_};
-ghost use mathlib.Core.Bool.{true, _&&_};
+ghost use mathlib.Core.Bool.{true, false, _&&_};
 ghost use Prim.Native.Nat.{_+_, _-_, _*_, _/_, _%_, _≤_, _<_};
 ghost use lib.Dec.{eqb};
 ghost use lib.ListN.{length, set, replicate, getD};
 ghost use Rattle.model.specs.Lists.{isSome};
 ghost use Rattle.model.specs.Words.{word, byteAt};
+ghost use Rattle.model.specs.Layout.{isDirectory};
 ghost use Rattle.model.specs.Journal.{view};
 ghost use Rattle.model.specs.Entry.{writeEntry, fileEntryOk};
 ghost use Rattle.model.specs.Log.{logPages};
@@ -15,7 +16,7 @@ ghost use Rattle.model.specs.Accept.{logOk, endOk};
 ghost use Rattle.log.specs.Entries.{meant};
 ghost use Rattle.log.specs.Ready.{Ready};
 ghost use Rattle.log.specs.Found.{logEntries, Inside};
-ghost use Rattle.files.specs.State.{fileFrom, filled, Applied, Folds, FoldsOver, startsOk, zerosAt};
+ghost use Rattle.files.specs.State.{fileFrom, filled, sizeIn, Applied, Folds, FoldsOver, startsOk, zerosAt};
 use log::Cursor;
 use log::Entry;
 use log::Log;
@@ -186,8 +187,8 @@ fn fold_file(v: &[u8], log: Log, inodes: usize, table: &mut [u64; 128]) -> Folde
 // that a file's log may hold.
 // Example: where the tail of inode 3 is 0, file_state(v, 3, 64, 8, table) is good, has size 0 and leaves the table.
 pub fn file_state(v: &[u8], k: usize, pages: usize, inodes: usize, table: &mut [u64; 128]) -> Folded
-    requires { ⌜ Ready (word (now v)) (length (now v)) pages inodes × (0 < k) × (k < inodes) × (now table ≡ replicate 128 0)
-        × (isSome (logPages (view (word (now v))) pages inodes k) ≡ true) ⌝ }
+    requires { ⌜ Ready (word (now v)) (length (now v)) pages inodes × (isDirectory (view (word (now v))) k ≡ false) × (k < inodes)
+        × (now table ≡ replicate 128 0) × (isSome (logPages (view (word (now v))) pages inodes k) ≡ true) ⌝ }
     ensures { λ r. ⌜ Folds (logOk (view (word (now (v .entry)))) pages inodes k)
         (fileOf (view (word (now (v .entry)))) pages inodes k) r (now (table .exit)) ⌝ }
 {
@@ -198,12 +199,49 @@ pub fn file_state(v: &[u8], k: usize, pages: usize, inodes: usize, table: &mut [
 // Reads the log of file k, which is known to be as an accepted volume has it, into a table of zeros, and answers the file's size.
 // Example: where file 3 has 514 bytes on pages 3 and 4, judged_file(v, 3, 64, 8, table) is 514, and table starts with 3, 4 and 0.
 pub fn judged_file(v: &[u8], k: usize, pages: usize, inodes: usize, table: &mut [u64; 128]) -> u64
-    requires { ⌜ Ready (word (now v)) (length (now v)) pages inodes × (0 < k) × (k < inodes) × (now table ≡ replicate 128 0)
-        × (logOk (view (word (now v))) pages inodes k ≡ true) ⌝ }
+    requires { ⌜ Ready (word (now v)) (length (now v)) pages inodes × (isDirectory (view (word (now v))) k ≡ false) × (k < inodes)
+        × (now table ≡ replicate 128 0) × (logOk (view (word (now v))) pages inodes k ≡ true) ⌝ }
     ensures { λ r. ⌜ fileFrom r (now (table .exit)) ≡ fileOf (view (word (now (v .entry)))) pages inodes k ⌝ }
 {
     let state = file_state(v, k, pages, inodes, table);
     state.size
+}
+
+// Answers the size that an entry leaves a file with.
+// Example: size_in(Entry::SetSize(700)) is 700.
+fn size_in(e: Entry) -> u64
+    ensures { λ r. ⌜ r ≡ sizeIn (meant e) ⌝ }
+{
+    match e {
+        Entry::Write {
+            file,
+            page,
+            count,
+            size,
+        } => size,
+        Entry::SetSize(size) => size,
+        Entry::Add { inode, name } => 0,
+        Entry::Remove(name) => 0,
+        Entry::None => 0,
+    }
+}
+
+// Answers the size of file k, whose log is known to be as an accepted volume has it, from the last entry alone: every entry sets the
+// size. An empty log is that of a file of no bytes.
+// Example: where the last entry of file 3 sets the size 700, last_size(v, 3, 64, 8) is 700.
+pub fn last_size(v: &[u8], k: usize, pages: usize, inodes: usize) -> u64
+    requires { ⌜ Ready (word (now v)) (length (now v)) pages inodes × (isDirectory (view (word (now v))) k ≡ false) × (k < inodes)
+        × (logOk (view (word (now v))) pages inodes k ≡ true) ⌝ }
+    ensures { λ r. ⌜ r ≡ fileOf (view (word (now (v .entry)))) pages inodes k .size ⌝ }
+{
+    let log = log::log_of(v, k, pages, inodes);
+    let end = log.end;
+    if end == 0 {
+        return 0;
+    }
+    let s = log::log_step(v, Cursor { place: end - 1 });
+    let e = s.entry;
+    size_in(e)
 }
 
 // Answers how many file pages start below the size.

@@ -38,8 +38,8 @@ refusal v marks room k r e m =
     let c = ap numberIn m in record { answer = rw e m; fits = omega arith; seen = λ h. absurd (omega arith) }
 
 -- r is what the gate answered of v
-module _ (v : List ℕ) {d : ℕ} (room : ℕ) (r : Answer) (places marks : List ℕ)
-    (g : Gated v d (closedChecks (length v) (word v)) r places marks) where
+module _ (v : List ℕ) (room : ℕ) (r : Answer) (places marks tree : List ℕ)
+    (g : Gated v (closedChecks (length v) (word v)) r places marks tree) where
   -- the check behind the gate's
   abbrev few : Checks
   few = (ltb room (length (gapsOf v)), tooManyGaps) ∷ []
@@ -47,14 +47,14 @@ module _ (v : List ℕ) {d : ℕ} (room : ℕ) (r : Answer) (places marks : List
   pub gaps-refused : NoNumber r → Judged v room r marks
   unfolding gapsIn
   gaps-refused o =
-      let h = gate-refused v _ r places marks g (λ x. some (length x)) few (done (gapsOf v)) o in
+      let h = gate-refused v _ r places marks tree g (λ x. some (length x)) few (done (gapsOf v)) o in
       let w = refusal-of r (gapsIn (length v) (word v) room) (λ x. some (length x)) (λ a. (length a, refl)) o h in
       refusal v marks room (w .0) r (sym (w .1)) (rw (← (w .1)) at h)
 
   -- n is what `count_gaps` answered
   module _ (k : ℕ) (e : r ≡ Number k) (n : ℕ) (c : n ≡ length (gapsLeft v marks 0)) where
     pages : word v 0 ≤ 4096
-    pages = gate-pages v _ r places marks g k e (word v 0) refl
+    pages = gate-pages v _ r places marks tree g k e (word v 0) refl
 
     shown : gapsLeft v marks 0 ≡ gapsOf v
     unfolding gaps
@@ -64,12 +64,12 @@ module _ (v : List ℕ) {d : ℕ} (room : ℕ) (r : Answer) (places marks : List
     unfolding gapsIn
     gaps-too-many l =
         refusal v marks room tooManyGaps TooManyGaps
-        (rw (gate-passed v _ r places marks g k e few (done (gapsOf v)), lt-ltb room (length (gapsOf v)) (rw (c, shown) at l))) refl
+        (rw (gate-passed v _ r places marks tree g k e few (done (gapsOf v)), lt-ltb room (length (gapsOf v)) (rw (c, shown) at l))) refl
 
     all-listed : n ≤ room → gapsIn (length v) (word v) room ≡ done (gapsOf v)
     unfolding gapsIn
     all-listed l =
-        rw (gate-passed v _ r places marks g k e few (done (gapsOf v)), le-ltb room (length (gapsOf v)) (rw (c, shown) at l))
+        rw (gate-passed v _ r places marks tree g k e few (done (gapsOf v)), le-ltb room (length (gapsOf v)) (rw (c, shown) at l))
 
     pub gaps-listed : n ≤ room → Judged v room (Number n) marks
     unfolding gapsAnswer
@@ -79,5 +79,5 @@ module _ (v : List ℕ) {d : ℕ} (room : ℕ) (r : Answer) (places marks : List
         record {
           answer = rw t (ap (λ x. done (some x)) s);
           fits = l;
-          seen = λ h. record { long = omega (arith, gate-long v _ r places marks g k e); pages = pages; gaps = rw t shown };
+          seen = λ h. record { long = omega (arith, gate-long v _ r places marks tree g k e); pages = pages; gaps = rw t shown };
         }

@@ -82,7 +82,8 @@ pub fn judge(v: &[u8], room: usize, marks: &mut [u8; 4096]) -> Answer
     ensures { λ r. ⌜ Judged (now (v .entry)) room r (now (marks .exit)) ⌝ }
 {
     let mut places = [0u16; 224];
-    let gate = gate::closed(v, layout::ROOT, &mut places, marks);
+    let mut tree = [0u16; 256];
+    let gate = gate::closed(v, &mut places, marks, &mut tree);
     let Answer::Number(_) = gate else {
         return gate;
     };

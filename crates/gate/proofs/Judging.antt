@@ -9,16 +9,16 @@ use Rattle.survey.specs.declared.Found.{Found}
 use Rattle.survey.specs.Surveyed.{Surveyed}
 use Rattle.answer.specs.declared.Answer.{Answer}
 use Rattle.answer.specs.declared.Answer.the-variants.{Number, ShortMemory, NoVolume, Damaged, JournalOpen}
-use Rattle.gate.specs.Gated.{namesIn, fillChecks, Tables, Gated}
+use Rattle.gate.specs.Gated.{rootNames, fillChecks, Tables, Gated}
 use Rattle.gate.proofs.Gates.{gate-refused, gate-passed}
 use Rattle.answer.proofs.Codes.{NoNumber}
 use Rattle.answer.proofs.Checked.{same-number}
 
 -- f is what `is_volume` answered of v
-module _ (v : List ℕ) (d : ℕ) (f : Bool) (a : f ≡ isVolume (length v) (word v)) where
-  pub judged-none : (places marks : List ℕ) → not f ≡ true → Gated v d (volumeChecks (length v) (word v)) NoVolume places marks
+module _ (v : List ℕ) (f : Bool) (a : f ≡ isVolume (length v) (word v)) where
+  pub judged-none : (places marks tree : List ℕ) → not f ≡ true → Gated v (volumeChecks (length v) (word v)) NoVolume places marks tree
   unfolding volumeChecks
-  judged-none places marks h =
+  judged-none places marks tree h =
       record {
         answer = rw (← a, not-true f h);
         tables = λ n e. let q : _≡_ {A = ℕ} 0 1 = cc in absurd (omega arith);
@@ -27,8 +27,8 @@ module _ (v : List ℕ) (d : ℕ) (f : Bool) (a : f ≡ isVolume (length v) (wor
   pub judged-is : not f ≡ false → isVolume (length v) (word v) ≡ true
   judged-is h = sym a ∙ not-false f h
 
-  module _ (h : not f ≡ false) (r : Found) (places marks : List ℕ) (s : Surveyed (word v) (length v) d r places marks) where
-    pub judged-damaged : not (r .accepted) ≡ true → Gated v d (volumeChecks (length v) (word v)) Damaged places marks
+  module _ (h : not f ≡ false) (r : Found) (places marks tree : List ℕ) (s : Surveyed v r places marks tree) where
+    pub judged-damaged : not (r .accepted) ≡ true → Gated v (volumeChecks (length v) (word v)) Damaged places marks tree
     unfolding volumeChecks
     judged-damaged y =
         record {
@@ -36,48 +36,56 @@ module _ (v : List ℕ) (d : ℕ) (f : Bool) (a : f ≡ isVolume (length v) (wor
           tables = λ n e. let q : _≡_ {A = ℕ} 0 1 = cc in absurd (omega arith);
         }
 
-    found : r .accepted ≡ true → Tables v d (r .names) places marks
+    found : r .accepted ≡ true → Tables v (r .names) places marks tree
     found y =
         record {
           volume = judged-is h;
           good = sym (s .answer) ∙ y;
-          filled = s .filled y;
-          names = s .names y;
+          lists = s .lists y;
           served = s .served y;
+          settled = s .settled y;
         }
 
-    pub judged-good : not (r .accepted) ≡ false → Gated v d (volumeChecks (length v) (word v)) (Number (r .names)) places marks
+    pub judged-good : not (r .accepted) ≡ false → Gated v (volumeChecks (length v) (word v)) (Number (r .names)) places marks tree
     unfolding volumeChecks
     judged-good y =
         let z = not-false (r .accepted) y in
         record {
-          answer = rw (judged-is h, ← (s .answer), z, ← (s .names z), standing-length (word v) (length v) places (r .names) (s .filled z));
+          answer =
+              rw (
+                judged-is h,
+                ← (s .answer),
+                z,
+                ← (s .lists z .names),
+                standing-length (word v) (length v) places (r .names) (s .lists z .filled),
+              );
           tables = λ n e. let q : r .names ≡ n = cc in rw (← q) (found z);
         }
 
 -- g is what `judged` answered and left, o what `is_open` answered
-module _ (v : List ℕ) (d : ℕ) (r : Answer) (places marks : List ℕ) (g : Gated v d (volumeChecks (length v) (word v)) r places marks) where
-  pub closed-refused : NoNumber r → Gated v d (closedChecks (length v) (word v)) r places marks
+module _ (v : List ℕ) (r : Answer) (places marks tree : List ℕ) (g : Gated v (volumeChecks (length v) (word v)) r places marks tree) where
+  pub closed-refused : NoNumber r → Gated v (closedChecks (length v) (word v)) r places marks tree
   unfolding closedChecks
   closed-refused o =
       record {
-        answer = gate-refused v _ r places marks g some _ _ o;
+        answer = gate-refused v _ r places marks tree g some _ _ o;
         tables = g .tables;
       }
 
   module _ (n : ℕ) (e : r ≡ Number n) (o : Bool) (b : o ≡ isOpen (word v)) where
-    passed : firstRefusal (closedChecks (length v) (word v)) (done (length (namesIn v d))) ≡ firstRefusal ((isOpen (word v), journalOpen) ∷ []) (done (length (namesIn v d)))
+    passed : firstRefusal (closedChecks (length v) (word v)) (done (length (rootNames v)))
+        ≡ firstRefusal ((isOpen (word v), journalOpen) ∷ []) (done (length (rootNames v)))
     unfolding closedChecks
-    passed = gate-passed v _ r places marks g n e _ _
+    passed = gate-passed v _ r places marks tree g n e _ _
 
-    pub closed-open : o ≡ true → Gated v d (closedChecks (length v) (word v)) JournalOpen places marks
+    pub closed-open : o ≡ true → Gated v (closedChecks (length v) (word v)) JournalOpen places marks tree
     closed-open y =
         record {
           answer = rw (passed, ← b, y);
           tables = λ k z. let q : _≡_ {A = ℕ} 0 1 = cc in absurd (omega arith);
         }
 
-    pub closed-is : o ≡ false → Gated v d (closedChecks (length v) (word v)) (Number n) places marks
+    pub closed-is : o ≡ false → Gated v (closedChecks (length v) (word v)) (Number n) places marks tree
     closed-is y =
         record {
           answer = rw (passed, ← b, y, same-number (volumeChecks (length v) (word v)) _ n (rw e at (g .answer)));
@@ -85,16 +93,16 @@ module _ (v : List ℕ) (d : ℕ) (r : Answer) (places marks : List ℕ) (g : Ga
         }
 
 -- A list to be filled: l is its length, and g what `closed` answered and left of v.
-module _ (v : List ℕ) (d l : ℕ) where
-  pub short-list : (places marks : List ℕ) → l < 4096 → Gated v d (fillChecks (length v) (word v) l) ShortMemory places marks
+module _ (v : List ℕ) (l : ℕ) where
+  pub short-list : (places marks tree : List ℕ) → l < 4096 → Gated v (fillChecks (length v) (word v) l) ShortMemory places marks tree
   unfolding fillChecks
-  short-list places marks h =
+  short-list places marks tree h =
       record {
         answer = rw (lt-ltb l 4096 h);
         tables = λ n e. let q : _≡_ {A = ℕ} 0 1 = cc in absurd (omega arith);
       }
 
-  pub long-list : (r : Answer) (places marks : List ℕ) → 4096 ≤ l → Gated v d (closedChecks (length v) (word v)) r places marks
-      → Gated v d (fillChecks (length v) (word v) l) r places marks
+  pub long-list : (r : Answer) (places marks tree : List ℕ) → 4096 ≤ l → Gated v (closedChecks (length v) (word v)) r places marks tree
+      → Gated v (fillChecks (length v) (word v) l) r places marks tree
   unfolding fillChecks
-  long-list r places marks h g = record { answer = rw (le-ltb l 4096 h) (g .answer); tables = g .tables }
+  long-list r places marks tree h g = record { answer = rw (le-ltb l 4096 h) (g .answer); tables = g .tables }

@@ -40,18 +40,18 @@ pub came : (v l : List ℕ) (c : Call) → needsClosed c ≡ true
 unfolding fills
 came v l c n = rw (all-checks v (length l) c n)
 
--- r, places and marks are what the gate answered and left
-module _ (v l : List ℕ) {d : ℕ} (c : Call) (n : needsClosed c ≡ true) (r : Answer) (places marks : List ℕ)
-    (g : Gated v d (fillChecks (length v) (word v) (length l)) r places marks) where
+-- r, places, marks and tree are what the gate answered and left
+module _ (v l : List ℕ) (c : Call) (n : needsClosed c ≡ true) (r : Answer) (places marks tree : List ℕ)
+    (g : Gated v (fillChecks (length v) (word v) (length l)) r places marks tree) where
   abbrev words : List ℕ → Option ℕ
   words x = some (length x)
 
   pub fill-refused : NoNumber r → Comes (cameTo v l c) l r l
-  fill-refused o = comes-told (cameTo v l c) l r o (rw (came v l c n) (gate-refused v _ r places marks g words _ _ o))
+  fill-refused o = comes-told (cameTo v l c) l r o (rw (came v l c n) (gate-refused v _ r places marks tree g words _ _ o))
 
   module _ (s : ℕ) (e : r ≡ Number s) where
     pub fill-behind : cameTo v l c ≡ firstRefusal (ownChecks v c) (done (filledWords v c))
-    fill-behind = came v l c n ∙ gate-passed v _ r places marks g s e _ _
+    fill-behind = came v l c n ∙ gate-passed v _ r places marks tree g s e _ _
 
     -- Further checks in two stages: t is what the first of them came to.
     module _ (first last : Checks) (own : ownChecks v c ≡ first ++ last) (x : ℕ) (t : Answer) (h : meaning t ≡ numbered (firstRefusal first (done x))) where
@@ -65,7 +65,8 @@ module _ (v l : List ℕ) {d : ℕ} (c : Call) (n : needsClosed c ≡ true) (r :
       stage-behind i j = staged ∙ none-refuses first x i (rw j at h) (firstRefusal last (done (filledWords v c)))
 
 -- Behind the gate the list is long enough, and the volume is accepted and its journal closed.
-module _ (v l : List ℕ) {d : ℕ} (r : Answer) (places marks : List ℕ) (g : Gated v d (fillChecks (length v) (word v) (length l)) r places marks)
+module _ (v l : List ℕ) (r : Answer) (places marks tree : List ℕ)
+    (g : Gated v (fillChecks (length v) (word v) (length l)) r places marks tree)
     (n : ℕ) (e : r ≡ Number n) where
   pub fill-long : 4096 ≤ length l
   unfolding fillChecks

@@ -4,24 +4,22 @@ use mathlib.Core.Path.{_≡_}
 use mathlib.Core.Bool.{true}
 use mathlib.Core.List.{List, _∷_}
 use lib.Dec.{ltb}
-use lib.ListN.{length, take}
+use lib.ListN.{length}
 use Rattle.model.specs.Words.{Mem, word}
 use Rattle.model.specs.Layout.{root, listWords}
 use Rattle.model.specs.Journal.{view}
-use Rattle.model.specs.State.{Names, namesOf}
+use Rattle.model.specs.State.{Names}
 use Rattle.model.specs.Accept.{accepted}
 use Rattle.model.specs.Answer.{done, Checks, firstRefusal, shortMemory}
 use Rattle.model.specs.Public.{isVolume, closedChecks}
-use Rattle.directory.specs.Places.{standing, Filled}
+use Rattle.names.specs.Listed.{namesIn, Lists}
 use Rattle.inodes.specs.Judged.{Served}
+use Rattle.survey.specs.Surveyed.{TreeOf}
 use Rattle.answer.specs.Meaning.{meaning, numbered}
 use Rattle.answer.specs.declared.Answer.{Answer}
 use Rattle.answer.specs.declared.Answer.the-variants.{Number}
 
--- the names of directory d of the volume v; those of inode 0
-abbrev pub namesIn : List ℕ → ℕ → Names
-namesIn v d = namesOf (view (word v)) (word v 0) (word v 1) d
-
+-- the names of inode 0 of the volume v
 abbrev pub rootNames : List ℕ → Names
 rootNames v = namesIn v root
 
@@ -29,16 +27,16 @@ rootNames v = namesIn v root
 unfoldable pub fillChecks : ℕ → Mem → ℕ → Checks
 fillChecks len m l = (ltb l listWords, shortMemory) ∷ closedChecks len m
 
--- v is an accepted volume whose directory d has n names; the first places are those of these names, and the marks those of its pages in
--- use.
-pub record Tables (v : List ℕ) (d n : ℕ) (places marks : List ℕ) : Type 0 where
+-- v is an accepted volume whose inode 0 has n names; the first places are those of these names, the marks those of its pages in use, and
+-- the tree is that of its folders.
+pub record Tables (v : List ℕ) (n : ℕ) (places marks tree : List ℕ) : Type 0 where
   pub volume : isVolume (length v) (word v) ≡ true
   pub good : accepted (word v) (word v 0) (word v 1) ≡ true
-  pub filled : Filled (word v) (length v) n places
-  pub names : standing (word v) (take n places) ≡ namesIn v d
+  pub lists : Lists v root n places
   pub served : Served (view (word v)) (word v 0) (word v 1) true marks
+  pub settled : TreeOf (word v) tree
 
--- r: the number of the first check that holds, or the count of directory d's names where none does
-pub record Gated (v : List ℕ) (d : ℕ) (checks : Checks) (r : Answer) (places marks : List ℕ) : Type 0 where
-  pub answer : meaning r ≡ numbered (firstRefusal checks (done (length (namesIn v d))))
-  pub tables : (n : ℕ) → r ≡ Number n → Tables v d n places marks
+-- r: the number of the first check that holds, or the count of names of inode 0 where none does
+pub record Gated (v : List ℕ) (checks : Checks) (r : Answer) (places marks tree : List ℕ) : Type 0 where
+  pub answer : meaning r ≡ numbered (firstRefusal checks (done (length (rootNames v))))
+  pub tables : (n : ℕ) → r ≡ Number n → Tables v n places marks tree

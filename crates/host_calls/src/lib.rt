@@ -3,24 +3,25 @@
 // refusal. A slice is a pointer and then a length in C:
 //     int64_t volume_format(uint8_t *volume, size_t volume_len, uint64_t pages, uint64_t inodes);
 //     int64_t volume_carry_out(uint8_t *volume, size_t volume_len, const uint64_t *list, size_t list_len, uint64_t count);
-//     int64_t volume_find(const uint8_t *volume, size_t volume_len, const uint8_t *name, size_t name_len);
+//     int64_t volume_find(const uint8_t *volume, size_t volume_len, uint64_t folder, const uint8_t *name, size_t name_len);
 //     int64_t volume_size(const uint8_t *volume, size_t volume_len, uint64_t inode);
 //     int64_t volume_read(const uint8_t *volume, size_t volume_len, uint64_t inode, uint64_t offset,
 //         uint8_t *buffer, size_t buffer_len);
-//     int64_t volume_kth_name(const uint8_t *volume, size_t volume_len, uint64_t k, uint8_t *buffer, size_t buffer_len);
+//     int64_t volume_kth_name(const uint8_t *volume, size_t volume_len, uint64_t folder, uint64_t k, uint8_t *buffer, size_t buffer_len);
+//     int64_t volume_total(const uint8_t *volume, size_t volume_len, uint64_t folder);
 //     int64_t volume_free_count(const uint8_t *volume, size_t volume_len);
 //     int64_t volume_gaps(const uint8_t *volume, size_t volume_len, uint64_t *pairs, size_t pairs_len);
-//     int64_t volume_create(const uint8_t *volume, size_t volume_len, const uint8_t *name, size_t name_len,
+//     int64_t volume_create(const uint8_t *volume, size_t volume_len, uint64_t folder, const uint8_t *name, size_t name_len,
 //         uint64_t *list, size_t list_len);
-// and likewise volume_unlink; volume_link and volume_rename with two names; volume_write with inode, offset and bytes;
-// volume_set_size with inode and size; volume_clean with an inode; volume_recover.
+// and likewise volume_create_folder and volume_unlink; volume_link and volume_rename with two folders and names, each folder before its
+// name; volume_write with inode, offset and bytes; volume_set_size with inode and size; volume_clean with an inode; volume_recover.
 // find, size and read hand on to crate firmware: a static library exports the functions of its own crate alone.
 ghost use mathlib.Core.Path.{_≡_};
 ghost use Prim.Native.Nat.{_/_};
 ghost use lib.ListN.{length};
-ghost use Rattle.model.specs.Public.{formatAnswer, formatVolume, carryAnswer, carryVolume, findAnswer, sizeAnswer};
+ghost use Rattle.model.specs.Public.{formatAnswer, formatVolume, carryAnswer, carryVolume, findAnswer, totalAnswer, sizeAnswer};
 ghost use Rattle.model.specs.Public.{readAnswer, readBuffer, kthNameAnswer, kthNameBuffer, freeAnswer, gapsAnswer, gapsWords};
-ghost use Rattle.model.specs.FileMap.{create, link, unlink, rename, write, setSize, clean, recover};
+ghost use Rattle.model.specs.FileMap.{create, createFolder, link, unlink, rename, write, setSize, clean, recover};
 ghost use Rattle.answer.specs.Meaning.{plain, numbered, codeOf};
 ghost use Rattle.answer.specs.Comes.{Returns};
 
@@ -48,18 +49,18 @@ pub extern "C" fn volume_carry_out(volume: &mut [u8], list: &[u64], count: u64) 
     answer::code(volume::carry_out(volume, list, count))
 }
 
-// Looks a name up and answers its inode, or minus the number of the refusal: 2 no volume, 3 damaged, 4 journal open,
-// 5 bad name, 6 not there.
-// Example: where the name "A1" leads to inode 1, the name "A1" answers 1, "A2" -6 and the empty name -5.
+// Looks a name up in a folder and answers its inode, or minus the number of the refusal: 2 no volume, 3 damaged, 4 journal open,
+// 5 bad name, 6 not there, 16 where the inode given as folder is a file.
+// Example: where the name "A1" of inode 0 leads to inode 1, inode 0 and "A1" answer 1, "A2" -6 and the empty name -5.
 #[no_mangle]
-pub extern "C" fn volume_find(volume: &[u8], name: &[u8]) -> i64
-    ensures { λ r. ⌜ r ≡ codeOf (numbered (findAnswer (now (volume .entry)) (now (name .entry)))) ⌝ }
+pub extern "C" fn volume_find(volume: &[u8], folder: u64, name: &[u8]) -> i64
+    ensures { λ r. ⌜ r ≡ codeOf (numbered (findAnswer (now (volume .entry)) folder (now (name .entry)))) ⌝ }
 {
-    firmware::volume_find(volume, name)
+    firmware::volume_find(volume, folder, name)
 }
 
 // Answers the size of a file in bytes, or minus the number of the refusal: 2 no volume, 3 damaged, 4 journal open,
-// 6 not there.
+// 6 not there, 16 a folder.
 // Example: where inode 1 is a file of 514 bytes, inode 1 answers 514 and inode 0 -6.
 #[no_mangle]
 pub extern "C" fn volume_size(volume: &[u8], inode: u64) -> i64
@@ -69,7 +70,7 @@ pub extern "C" fn volume_size(volume: &[u8], inode: u64) -> i64
 }
 
 // Lays a file's bytes from an offset on into a buffer, as many as the file has there and the buffer holds, and answers
-// their count, or minus the number of the refusal: 2 no volume, 3 damaged, 4 journal open, 6 not there. The rest of the
+// their count, or minus the number of the refusal: 2 no volume, 3 damaged, 4 journal open, 6 not there, 16 a folder. The rest of the
 // buffer keeps its bytes, and of a refusal all of it.
 // Example: where inode 1 is a file of 514 bytes, offset 510 and a buffer of 16 bytes answer 4 and fill the first 4;
 // offset 514 answers 0, and inode 0 -6.
@@ -81,16 +82,27 @@ pub extern "C" fn volume_read(volume: &[u8], inode: u64, offset: u64, buffer: &m
     firmware::volume_read(volume, inode, offset, buffer)
 }
 
-// Lays the k-th name, counted from 0, into the first 32 bytes of a buffer, zeros after it, and answers its length, or
-// minus the number of the refusal: 1 short memory, 2 no volume, 3 damaged, 4 journal open, 6 not there; the buffer is
-// then left as it was.
-// Example: where "A1" is the only name, k 0 answers 2 and makes the buffer begin with 65, 49 and 30 zeros; k 1 answers -6.
+// Lays the k-th name of a folder, counted from 0, into the first 32 bytes of a buffer, zeros after it, and answers its length, or
+// minus the number of the refusal: 1 short memory, 2 no volume, 3 damaged, 4 journal open, 6 not there, 16 where the inode given as folder
+// is a file; the buffer is then left as it was.
+// Example: where "A1" is the only name of inode 0, inode 0 and k 0 answer 2 and make the buffer begin with 65, 49 and 30 zeros; k 1 answers
+// -6.
 #[no_mangle]
-pub extern "C" fn volume_kth_name(volume: &[u8], k: u64, buffer: &mut [u8]) -> i64
-    ensures { λ r. ⌜ (r ≡ codeOf (numbered (kthNameAnswer (now (volume .entry)) k (now (buffer .entry)))))
-        × (now (buffer .exit) ≡ kthNameBuffer (now (volume .entry)) k (now (buffer .entry))) ⌝ }
+pub extern "C" fn volume_kth_name(volume: &[u8], folder: u64, k: u64, buffer: &mut [u8]) -> i64
+    ensures { λ r. ⌜ (r ≡ codeOf (numbered (kthNameAnswer (now (volume .entry)) folder k (now (buffer .entry)))))
+        × (now (buffer .exit) ≡ kthNameBuffer (now (volume .entry)) folder k (now (buffer .entry))) ⌝ }
 {
-    answer::code(volume::kth_name(volume, k, buffer))
+    answer::code(volume::kth_name(volume, folder, k, buffer))
+}
+
+// Answers the bytes beneath a folder, or minus the number of the refusal: 2 no volume, 3 damaged, 4 journal open, 6 not there, 16 where the
+// inode given as folder is a file.
+// Example: where "A1" and "A2" of inode 0 lead to one file of 514 bytes and nothing else stands there, inode 0 answers 1028.
+#[no_mangle]
+pub extern "C" fn volume_total(volume: &[u8], folder: u64) -> i64
+    ensures { λ r. ⌜ r ≡ codeOf (numbered (totalAnswer (now (volume .entry)) folder)) ⌝ }
+{
+    answer::code(volume::total(volume, folder))
 }
 
 // Answers the count of free pages, or minus the number of the refusal: 2 no volume, 3 damaged, 4 journal open.
@@ -115,50 +127,83 @@ pub extern "C" fn volume_gaps(volume: &[u8], pairs: &mut [u64]) -> i64
     answer::code(gaps::list_words(volume, pairs))
 }
 
-// Fills a store list that makes a new, empty file with a name. Answers the count of words filled, or minus the number of the refusal: 1
-// short memory, 2 no volume, 3 damaged, 4 journal open, 5 bad name, 7 taken, 10 no inode, 11 directory full, 12 no space, 15 last page; the
-// list is then left as it was, here and below. The names "." and ".." are 5, here and as the new name of link and rename.
-// Example: of 16 pages just formatted with 8 inodes the name "A1" answers 46.
+// Fills a store list that makes a new, empty file with a name in a folder. Answers the count of words filled, or minus the number of the
+// refusal: 1 short memory, 2 no volume, 3 damaged, 4 journal open, 5 bad name, 6 not there, 7 taken, 16 where the inode given as folder is
+// a file, 10 no inode, 11 directory full, 12 no space, 15 last page; the list is then left as it was, here and below. The names "." and
+// ".." are 5, here and as the new name of link and rename.
+// Example: of 16 pages just formatted with 8 inodes inode 0 and the name "A1" answer 48.
 #[no_mangle]
-pub extern "C" fn volume_create(volume: &[u8], name: &[u8], list: &mut [u64]) -> i64
-    ensures { λ r. ⌜ Returns (now (volume .entry)) (now (list .entry)) (create (now (name .entry))) r (now (list .exit)) ⌝ }
+pub extern "C" fn volume_create(volume: &[u8], folder: u64, name: &[u8], list: &mut [u64]) -> i64
+    ensures { λ r. ⌜ Returns (now (volume .entry)) (now (list .entry)) (create folder (now (name .entry))) r (now (list .exit)) ⌝ }
 {
-    answer::code(volume::create(volume, name, list))
+    answer::code(volume::create(volume, folder, name, list))
 }
 
-// Fills a store list that gives a file a further name. Answers the count of words filled, or minus the number of the refusal: 1 to 5, 6 not
-// there, 7 taken, 11 directory full, 12 no space, 15 last page.
-// Example: where "A1" is the only name and the directory's log page has room for an entry, "A1" and "A2" answer 22, and "A1" and "A1" -7.
+// Fills a store list that makes a new folder without names, and answers as volume_create does.
+// Example: of 16 pages just formatted with 8 inodes inode 0 and the name "A" answer 48.
 #[no_mangle]
-pub extern "C" fn volume_link(volume: &[u8], old: &[u8], new: &[u8], list: &mut [u64]) -> i64
-    ensures { λ r. ⌜ Returns (now (volume .entry)) (now (list .entry)) (link (now (old .entry)) (now (new .entry))) r (now (list .exit)) ⌝ }
+pub extern "C" fn volume_create_folder(
+    volume: &[u8],
+    folder: u64,
+    name: &[u8],
+    list: &mut [u64],
+) -> i64
+    ensures { λ r. ⌜ Returns (now (volume .entry)) (now (list .entry)) (createFolder folder (now (name .entry))) r (now (list .exit)) ⌝ }
 {
-    answer::code(volume::link(volume, old, new, list))
+    answer::code(volume::create_folder(volume, folder, name, list))
 }
 
-// Fills a store list that takes a name away, and its file if it is the last. Answers the count of words filled, or minus the number of the
-// refusal: 1 to 5, 6 not there, 12 no space.
-// Example: where "A1" is the only name of inode 1 and the directory's log page has room for an entry, it answers 40.
+// Fills a store list that gives a file a further name, the new one in the second folder. Answers the count of words filled, or minus the
+// number of the refusal: 1 to 5, 6 not there, 7 taken, 16 where an inode given as folder is a file or the old name leads to a folder,
+// 11 directory full, 12 no space, 15 last page.
+// Example: where "A1" is the only name and the log page of inode 0 has room for an entry, "A1" and "A2" in inode 0 answer 22, and "A1" and
+// "A1" -7.
 #[no_mangle]
-pub extern "C" fn volume_unlink(volume: &[u8], name: &[u8], list: &mut [u64]) -> i64
-    ensures { λ r. ⌜ Returns (now (volume .entry)) (now (list .entry)) (unlink (now (name .entry))) r (now (list .exit)) ⌝ }
+pub extern "C" fn volume_link(
+    volume: &[u8],
+    old_folder: u64,
+    old: &[u8],
+    new_folder: u64,
+    new: &[u8],
+    list: &mut [u64],
+) -> i64
+    ensures { λ r. ⌜ Returns (now (volume .entry)) (now (list .entry))
+        (link «old_folder» (now (old .entry)) «new_folder» (now (new .entry))) r (now (list .exit)) ⌝ }
 {
-    answer::code(volume::unlink(volume, name, list))
+    answer::code(volume::link(volume, old_folder, old, new_folder, new, list))
 }
 
-// Fills a store list that gives a file another name in place of one. Answers the count of words filled, 0 where both names lead to one
-// file, or minus the number of the refusal: 1 to 5, 6 not there, 12 no space.
-// Example: where "A1" is the only name, "A1" and "A1" answer 0.
+// Fills a store list that takes a name away, and its file if it is the last, or its folder. Answers the count of words filled, or minus the
+// number of the refusal: 1 to 5, 6 not there, 16 where the inode given as folder is a file, 17 a folder that has names, 12 no space.
+// Example: where "A1" is the only name of inode 1 and the log page of inode 0 has room for an entry, it answers 40.
 #[no_mangle]
-pub extern "C" fn volume_rename(volume: &[u8], old: &[u8], new: &[u8], list: &mut [u64]) -> i64
-    ensures { λ r. ⌜ Returns (now (volume .entry)) (now (list .entry)) (rename (now (old .entry)) (now (new .entry))) r
-        (now (list .exit)) ⌝ }
+pub extern "C" fn volume_unlink(volume: &[u8], folder: u64, name: &[u8], list: &mut [u64]) -> i64
+    ensures { λ r. ⌜ Returns (now (volume .entry)) (now (list .entry)) (unlink folder (now (name .entry))) r (now (list .exit)) ⌝ }
 {
-    answer::code(volume::rename(volume, old, new, list))
+    answer::code(volume::unlink(volume, folder, name, list))
+}
+
+// Fills a store list that gives a file or folder another name in place of one, the new one in the second folder. Answers the count of words
+// filled, 0 where both names lead to one inode, or minus the number of the refusal: 1 to 5, 6 not there, 16 where an inode given as folder
+// is a file or a folder is in the way, 18 where a folder would move into or beneath itself, 11 directory full, 12 no space.
+// Example: where "A1" is the only name, "A1" and "A1" in inode 0 answer 0.
+#[no_mangle]
+pub extern "C" fn volume_rename(
+    volume: &[u8],
+    old_folder: u64,
+    old: &[u8],
+    new_folder: u64,
+    new: &[u8],
+    list: &mut [u64],
+) -> i64
+    ensures { λ r. ⌜ Returns (now (volume .entry)) (now (list .entry))
+        (rename «old_folder» (now (old .entry)) «new_folder» (now (new .entry))) r (now (list .exit)) ⌝ }
+{
+    answer::code(volume::rename(volume, old_folder, old, new_folder, new, list))
 }
 
 // Fills a store list that writes bytes into a file from an offset on. Answers the count of words filled, 0 for no bytes, or minus the
-// number of the refusal: 1 to 4, 6 not there, 8 over 4,096 bytes, 9 past the end, 12 no space, 15 last page.
+// number of the refusal: 1 to 4, 6 not there, 16 a folder, 8 over 4,096 bytes, 9 past the end, 12 no space, 15 last page.
 // Example: of a file that was just made, 4 bytes at offset 510 answer 280.
 #[no_mangle]
 pub extern "C" fn volume_write(
@@ -174,7 +219,7 @@ pub extern "C" fn volume_write(
 }
 
 // Fills a store list that changes the size of a file. Answers the count of words filled, 0 where the size is the same, or minus the number
-// of the refusal: 1 to 4, 6 not there, 9 past the end, 12 no space, 15 last page.
+// of the refusal: 1 to 4, 6 not there, 16 a folder, 9 past the end, 12 no space, 15 last page.
 // Example: of a file of 514 bytes, size 514 answers 0.
 #[no_mangle]
 pub extern "C" fn volume_set_size(volume: &[u8], inode: u64, size: u64, list: &mut [u64]) -> i64

@@ -1,28 +1,25 @@
 -- The cases of the functions that judge one inode: what they read from the raw memory is what the view has, and a chain of
 -- judgements and marks is one judgement.
-use Rattle.model.proofs.Prelude.{ℕ, zero, suc, _+_, _*_, _/_, _≤_, _<_, _≡_, refl, sym, _∙_, ap, subst, ⊎-elim, Bool, true, false, not, _&&_, List, [], arith, getD, leb, lt-leb, eq-eqb, ne-eqb, not-true, not-false}
-use Rattle.model.specs.Lists.{all, allBelow, isSome, orElse}
+use Rattle.model.proofs.Prelude.{ℕ, zero, suc, _+_, _*_, _/_, _≤_, _<_, _≡_, refl, sym, _∙_, ap, subst, ⊎-elim, Bool, true, false, not, _&&_, List, [], append-nil, arith, getD, leb, eqb, lt-leb, eq-eqb, ne-eqb, not-true, not-false}
+use Rattle.model.specs.Lists.{all, isSome, orElse}
 use Rattle.model.specs.Words.{Mem}
-use Rattle.model.specs.Layout.{validWord, inPages, root, filePages}
-use Rattle.model.specs.Journal.{view}
+use Rattle.model.specs.Layout.{validWord, typeWord, isDirectory, inPages, root, filePages}
+use Rattle.model.specs.Journal.{view, journalOk}
 use Rattle.model.specs.Log.{logPages, entries, pages as pagesOfInode}
 use Rattle.model.specs.State.{File, fileOf}
-use Rattle.model.specs.Accept.{logOk, endOk, validOk, inodeOk}
+use Rattle.model.specs.Accept.{logOk, endOk, validOk, typeOk}
 use Rattle.model.proofs.Tests.{by-bool, by-eq, no, and-left, and-right, ands}
 use Rattle.model.proofs.Frame.Placed.{Placed, in-bounds}
 use Rattle.model.proofs.Frame.Inode.{file-placed}
 use Rattle.model.proofs.State.Bytes.{kept-end, placed-ended, small-file}
-use Rattle.journal.proofs.Views.{view-raw}
+use Rattle.tree.specs.Noted.{notedState, fileState}
+use Rattle.journal.proofs.Views.{view-raw, type-raw}
 use Rattle.log.specs.Ready.{Ready}
 use Rattle.files.specs.State.{fileFrom, Folds}
 use Rattle.files.specs.declared.Folded.{Folded}
-use Rattle.marks.specs.Marks.{fresh, marked, mapped, mappedBy, usedBy, usedBelow, Marked, Judged, Walked}
+use Rattle.marks.specs.Marks.{fresh, marked, mapped, mappedBy, usedBy, Marked, Judged, Walked}
 use Rattle.marks.proofs.Counts.{fresh-append, marked-append}
-use Rattle.inodes.specs.Judged.{EndJudged, pagesOfFile, FileJudged, noMarks, RootJudged, InodeJudged}
-
--- all inodes, on marks of which none was set
-abbrev pub FilesJudged : Mem → ℕ → ℕ → Bool → List ℕ → Type 0
-FilesJudged u P N r b = Judged (allBelow N (inodeOk u P N)) noMarks (usedBelow u P N N) r b
+use Rattle.inodes.specs.Judged.{EndJudged, pagesOfFile, FileJudged, noMarks, RootJudged, shapeOk, StateJudged, InodeJudged}
 
 -- The answer no.
 
@@ -54,10 +51,11 @@ mapped-first f (suc n) (suc c) i l h = rw (mapped-first f n c (i + 1) (omega ari
 
 -- File k, whose log is good: s is its size and t the table of its data pages.
 
-module _ (m : Mem) (L P N k s : ℕ) (t : List ℕ) (ready : Ready m L P N) (kp : 0 < k) (ok : logOk (view m) P N k ≡ true)
+module _ (m : Mem) (L P N k s : ℕ) (t : List ℕ) (ready : Ready m L P N) (kf : isDirectory (view m) k ≡ false)
+    (ok : logOk (view m) P N k ≡ true)
     (f : fileFrom s t ≡ fileOf (view m) P N k) where
   set-down : Placed P N (fileFrom s t)
-  set-down = subst (λ (g : File). Placed P N g) (sym f) (file-placed (view m) P N k ok (omega arith))
+  set-down = subst (λ (g : File). Placed P N g) (sym f) (file-placed (view m) P N k ok kf)
 
   page-inside : (i : ℕ) → (getD t i 0 ≡ 0 → ⊥) → inPages P N (getD t i 0) ≡ true
   page-inside i z = ⊎-elim (λ e. absurd (z e)) (λ h. h .1) (set-down i)
@@ -65,7 +63,7 @@ module _ (m : Mem) (L P N k s : ℕ) (t : List ℕ) (ready : Ready m L P N) (kp 
   end-size : s ≤ 65536
   unfolding logOk fileOf
   end-size =
-      let h = rw (ne-eqb k 0 (omega arith)) at ok in
+      let h = rw kf at ok in
       let e : s ≡ fileOf (view m) P N k .size = ap (λ (g : File). g .size) f in
       rw e (small-file P N (entries (view m) P N k) (search ands))
 
@@ -114,7 +112,8 @@ module _ (m : Mem) (s : ℕ) (t : List ℕ) (r : Bool) (e : r ≡ endOk m (fileF
   end-is a b n o y h g = record { answer = rw (sym e ∙ not-false r y, ← h) (g .answer); list = λ w. rw (← h) (g .list w) }
 
 -- File k: q is what `mark_log` answered, and a and b are the marks before and after it.
-module _ (m : Mem) (L P N k : ℕ) (ready : Ready m L P N) (kp : 0 < k) (a b : List ℕ) (q : Bool) (x : Walked (logPages (view m) P N k) a q b) where
+module _ (m : Mem) (L P N k : ℕ) (ready : Ready m L P N) (kf : isDirectory (view m) k ≡ false) (a b : List ℕ) (q : Bool)
+    (x : Walked (logPages (view m) P N k) a q b) where
   abbrev u : Mem
   u = view m
 
@@ -154,21 +153,21 @@ module _ (m : Mem) (L P N k : ℕ) (ready : Ready m L P N) (kp : 0 < k) (a b : L
         state-file = g .file (not-false (f .good) n)
 
         pub size-low : f .size ≤ 65536
-        size-low = end-size m L P N k (f .size) t ready kp state-good state-file
+        size-low = end-size m L P N k (f .size) t ready kf state-good state-file
 
         pub size-room : 512 * getD t (f .size / 512) 0 + 512 ≤ L
-        size-room = end-room m L P N k (f .size) t ready kp state-good state-file
+        size-room = end-room m L P N k (f .size) t ready kf state-good state-file
 
         pub pages-in : all (inPages P N) (mapped t 0 ((f .size + 511) / 512)) ≡ true
-        pages-in = table-in m L P N k (f .size) t ready kp state-good state-file ((f .size + 511) / 512)
+        pages-in = table-in m L P N k (f .size) t ready kf state-good state-file ((f .size + 511) / 512)
 
         -- o and c are what `judge_end` answered and left
         pub file-is : (o : Bool) (c : List ℕ) → EndJudged m (f .size) t b o c → FileJudged (view m) P N k a o c
         file-is o c j =
-            let same = end-same m L P N k (f .size) t ready kp state-good state-file in
+            let same = end-same m L P N k (f .size) t ready kf state-good state-file in
             by-bool (endOk m (fileFrom (f .size) t))
             (λ e.
-            let d = mapped-is m L P N k (f .size) t ready kp state-good state-file e in
+            let d = mapped-is m L P N k (f .size) t ready kf state-good state-file e in
             record {
               answer = rw (state-good, ← same, e, fresh-append, log-once, ← log-marked, ← d) (rw e at (j .answer));
               list = λ w. rw (marked-append, ← log-marked, ← d) (j .list w);
@@ -177,31 +176,72 @@ module _ (m : Mem) (L P N k : ℕ) (ready : Ready m L P N) (kp : 0 < k) (a b : L
             let z : o ≡ false = rw e at (j .answer) in
             record { answer = rw (state-good, ← same, e) z; list = λ w. no (sym z ∙ w) })
 
--- Inode k, not the directory's: v is its valid word.
+-- A state that stands for an answer: q is the answer, b the marks that the judgement left.
 
-module _ (m : Mem) (P N k w v : ℕ) (kp : 0 < k) (x : w ≡ validWord k) (i : v ≡ view m w) where
-  pub inode-free : (a : List ℕ) → v ≡ 0 → InodeJudged (view m) P N k a true a
-  unfolding inodeOk validOk usedBy fresh marked
+module _ (ok : Bool) (a ps b : List ℕ) (q : Bool) (s : ℕ) (j : Judged ok a ps q b) where
+  pub state-yes : s < 7 → q ≡ true → StateJudged ok a ps s s b
+  state-yes l y =
+      let e : not (eqb s 7) ≡ true = rw (ne-eqb s 7 (omega arith)) in
+      record { judged = record { answer = e ∙ sym y ∙ j .answer; list = λ z. j .list y }; state = λ z. refl; low = omega arith }
+
+  pub state-no : q ≡ false → StateJudged ok a ps s 7 b
+  state-no n =
+      record { judged = refused ok a ps b (sym (j .answer) ∙ n); state = λ z. absurd (z refl); low = omega arith }
+
+state-bad : (ok : Bool) (a ps : List ℕ) (s : ℕ) → ok ≡ false → StateJudged ok a ps s 7 a
+state-bad ok a ps s e = record { judged = bad ok a ps a e; state = λ z. absurd (z refl); low = omega arith }
+
+-- Inode k, not inode 0: v is its valid word, and x its type.
+
+module _ (m : Mem) (P N k w v : ℕ) (kp : 0 < k) (i : w ≡ validWord k) (e : v ≡ view m w) where
+  abbrev u′ : Mem
+  u′ = view m
+
+  word-is : (n : ℕ) → v ≡ n → view m (validWord k) ≡ n
+  word-is n z = rw (← i, ← e) z
+
+  pub inode-free : (a : List ℕ) → v ≡ 0 → InodeJudged (view m) P N k a 0 a
+  unfolding shapeOk validOk usedBy fresh marked notedState
   inode-free a z =
-      let e : view m (validWord k) ≡ 0 = rw (← x, ← i) z in
-      record { answer = rw (e, ne-eqb k 0 (omega arith)); list = λ _. rw e }
-
-  pub inode-file : (a b : List ℕ) (r : Bool) → v ≡ 1 → FileJudged (view m) P N k a r b → InodeJudged (view m) P N k a r b
-  unfolding inodeOk validOk usedBy
-  inode-file a b r z j =
-      let e : view m (validWord k) ≡ 1 = rw (← x, ← i) z in
+      let h = word-is 0 z in
       record {
-        answer = rw (inodeOk, validOk, usedBy, e, ne-eqb k 0 (omega arith)) (j .answer);
-        list = λ y. rw (usedBy, e, ne-eqb k 0 (omega arith)) (j .list y);
+        judged = record { answer = rw (h, ne-eqb k 0 (omega arith)); list = λ _. rw h };
+        state = λ y. rw h;
+        low = omega arith;
       }
 
-  pub inode-bad : (a ps : List ℕ) → (v ≡ 0 → ⊥) → (v ≡ 1 → ⊥) → Judged (inodeOk (view m) P N k) a ps false a
-  unfolding inodeOk validOk
-  inode-bad a ps y z =
-      let g : leb (view m (validWord k)) 1 ≡ false = rw (← x, ← i) (lt-leb v 1 (omega arith)) in
-      bad _ a ps a (rw (inodeOk, validOk, ne-eqb k 0 (omega arith), g))
+  pub inode-bad : (a : List ℕ) → (v ≡ 0 → ⊥) → (v ≡ 1 → ⊥) → InodeJudged (view m) P N k a 7 a
+  unfolding shapeOk validOk
+  inode-bad a y z =
+      let g : leb (view m (validWord k)) 1 ≡ false = rw (← i, ← e) (lt-leb v 1 (omega arith)) in
+      state-bad _ a _ _ (rw (shapeOk, validOk, ne-eqb k 0 (omega arith), g))
 
--- The directory's inode: v is its valid word.
+  module _ (y : v ≡ 1) (z x : ℕ) (ready : journalOk m N ≡ true) (f : z ≡ typeWord k) (g : x ≡ m z) where
+    type-is : view m (typeWord k) ≡ x
+    type-is = type-raw m N k ready ∙ rw (← f) (sym g)
+
+    -- no folder
+    pub type-file : x ≡ 0 → isDirectory (view m) k ≡ false
+    type-file h = rw (ne-eqb k 0 (omega arith), type-is, h)
+
+    pub inode-file : (a b : List ℕ) (r : ℕ) → x ≡ 0
+        → StateJudged (logOk (view m) P N k && endOk (view m) (fileOf (view m) P N k)) a (pagesOfFile (view m) P N k) 1 r b
+        → InodeJudged (view m) P N k a r b
+    unfolding shapeOk validOk typeOk usedBy notedState fileState
+    inode-file a b r h j = rw (shapeOk, usedBy, word-is 1 y, ne-eqb k 0 (omega arith), type-is, h) j
+
+    pub inode-folder : (a b : List ℕ) (r : ℕ) → x ≡ 1
+        → StateJudged (isSome (logPages (view m) P N k)) a (orElse (logPages (view m) P N k) []) 4 r b → InodeJudged (view m) P N k a r b
+    unfolding shapeOk validOk typeOk usedBy pagesOfInode notedState
+    inode-folder a b r h j = rw (shapeOk, usedBy, word-is 1 y, ne-eqb k 0 (omega arith), type-is, h, append-nil) j
+
+    pub inode-strange : (a : List ℕ) → (x ≡ 0 → ⊥) → (x ≡ 1 → ⊥) → InodeJudged (view m) P N k a 7 a
+    unfolding shapeOk validOk typeOk
+    inode-strange a h n =
+        let l : leb (view m (typeWord k)) 1 ≡ false = rw type-is (lt-leb x 1 (omega arith)) in
+        state-bad _ a _ _ (rw (shapeOk, typeOk, word-is 1 y, ne-eqb k 0 (omega arith), l))
+
+-- Inode 0: v is its valid word.
 
 module _ (m : Mem) (P N w v : ℕ) (x : w ≡ validWord root) (i : v ≡ view m w) where
   pub root-bad : (b : List ℕ) → (v ≡ 1 → ⊥) → RootJudged (view m) P N false b

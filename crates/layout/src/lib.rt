@@ -3,7 +3,7 @@ ghost use mathlib.Core.Path.{_≡_};
 ghost use Prim.Native.Nat.{_^_, _≤_, _<_, max};
 ghost use lib.ListN.{length};
 ghost use Rattle.model.specs.Words.{word};
-ghost use Rattle.model.specs.Layout.{validWord, headWord, tailWord, footer};
+ghost use Rattle.model.specs.Layout.{validWord, headWord, tailWord, typeWord, footer};
 
 // The bytes of a page.
 pub const PAGE: usize = 512;
@@ -41,8 +41,14 @@ pub const NAME_BYTES: usize = 32;
 // The names that a directory has at most.
 pub const MOST_NAMES: usize = 224;
 
-// The inode of the directory.
+// The inode of the folder that every other one is reached from; it is a folder whatever its type word holds.
 pub const ROOT: usize = 0;
+
+// The type of a file, as an inode's type word holds it.
+pub const FILE_TYPE: u64 = 0;
+
+// The type of a folder.
+pub const FOLDER_TYPE: u64 = 1;
 
 // The word that holds the page count.
 pub const PAGES_WORD: usize = 0;
@@ -110,6 +116,15 @@ pub fn tail_word(k: usize) -> usize
     ensures { λ r. ⌜ r ≡ tailWord k ⌝ }
 {
     66 + 8 * k
+}
+
+// Answers the word that holds the type of inode k. It is no target of the journal, so that its view is the word as it stands.
+// Example: type_word(1) is 75.
+pub fn type_word(k: usize) -> usize
+    requires { ⌜ k < 2 ^ 60 ⌝ }
+    ensures { λ r. ⌜ r ≡ typeWord k ⌝ }
+{
+    67 + 8 * k
 }
 
 // Answers the word of log page p that holds the link to the next page.

@@ -1,38 +1,46 @@
--- The files of an accepted volume: each name leads to one, and its log is good.
-use Rattle.model.proofs.Prelude.{ℕ, _≤_, _<_, _≡_, refl, ap, true, List, [], _∷_, arith, leb-true, length}
-use Rattle.model.specs.Lists.{all}
-use Rattle.model.specs.Words.{Mem}
+-- The names of inode 0 of an accepted volume v: they are few and good, and each leads to a valid inode.
+use Rattle.model.proofs.Prelude.{ℕ, _≤_, _<_, _≡_, refl, true, List, [], _∷_, length, lt-ltb}
+use Rattle.model.specs.Lists.{has}
+use Rattle.model.specs.Words.{Mem, word}
 use Rattle.model.specs.Layout.{root}
-use Rattle.model.specs.State.{File, Names, fileOf, namesOf, inodes}
-use Rattle.model.specs.Accept.{isValid, namesOk, viewOk}
-use Rattle.model.proofs.Tests.{ands}
-use Rattle.model.proofs.Lists.{all-cons}
+use Rattle.model.specs.Journal.{view}
+use Rattle.model.specs.State.{Names, namesOf, inodes}
+use Rattle.model.specs.Accept.{isValid, foldersOf}
+use Rattle.model.proofs.Lists.{has-head, has-tail}
 use Rattle.model.proofs.Frame.View.{log-ok, root-valid}
+use Rattle.model.proofs.State.FoldersOk.{folders-fine}
 use Rattle.model.proofs.State.NameEntries.{GoodNames, names-good}
-use Rattle.files.specs.State.{fileFrom}
-use Rattle.listing.specs.Lines.{GoodFiles}
+use Rattle.names.specs.Listed.{namesIn, Good}
+use Rattle.names.proofs.Listing.{good-view, some-inodes}
+use Rattle.totals.proofs.Beneath.{child}
+use Rattle.listing.specs.Lines.{GoodInode, GoodInodes}
 
--- what `judged_file` answered, n, with the table t
-pub size-is : (u : Mem) (P N k n : ℕ) (t : List ℕ) → fileFrom n t ≡ fileOf u P N k → n ≡ fileOf u P N k .size
-size-is u P N k n t e = ap (λ (f : File). f .size) e
+inodes-of : (u : Mem) (N : ℕ) (ns : Names) → ((k : ℕ) → has k (inodes ns) ≡ true → GoodInode u N k) → GoodInodes u N ns
+unfolding GoodInodes
+inodes-of u N [] h = tt
+inodes-of u N (p ∷ ps) h =
+    (h (p .1) (has-head (p .1) (inodes ps)), inodes-of u N ps (λ k e. h k (has-tail k (p .1) (inodes ps) e)))
 
-module _ (u : Mem) (P N : ℕ) (ok : viewOk u P N ≡ true) where
-  files-of : (ns : Names) → GoodNames N ns → all (isValid u) (inodes ns) ≡ true → GoodFiles u P N ns
-  unfolding GoodFiles
-  files-of [] g v = tt
-  files-of (p ∷ ps) g v =
-      let c = all-cons (isValid u) (p .1) (inodes ps) v in
-      let first = g .0 .first in
-      (record { above = omega arith; below = g .0 .below; log = log-ok u P N ok (p .1) (g .0 .below) (c .0) }, files-of ps (g .1) (c .1))
+module _ (v : List ℕ) (g : Good v) where
+  abbrev u : Mem
+  u = view (word v)
 
-  module _ (some : 0 < N) where
-    pub good-names : GoodNames N (namesOf u P N root)
-    good-names = names-good u P N root refl (log-ok u P N ok root some (root-valid u P N ok some))
+  some : 0 < word v 1
+  some = some-inodes v (word v 0) (word v 1) (g .volume) refl refl
 
-    pub few-names : length (namesOf u P N root) ≤ 224
-    unfolding viewOk namesOk
-    few-names = leb-true (length (namesOf u P N root)) 224 (search ands)
+  root-good : isValid u root ≡ true
+  root-good = root-valid u (word v 0) (word v 1) (good-view v g) some
 
-    pub names-files : GoodFiles u P N (namesOf u P N root)
-    unfolding viewOk namesOk
-    names-files = files-of (namesOf u P N root) good-names (search ands)
+  root-names : namesOf u (word v 0) (word v 1) root ≡ namesIn v root
+  unfolding foldersOf
+  root-names = rw (lt-ltb 0 (word v 1) some, root-good)
+
+  pub good-names : GoodNames (word v 1) (namesIn v root)
+  good-names =
+      rw (← root-names) (names-good u (word v 0) (word v 1) root refl (log-ok u (word v 0) (word v 1) (good-view v g) root some root-good))
+
+  pub few-names : length (namesIn v root) ≤ 224
+  few-names = folders-fine u (word v 0) (word v 1) (good-view v g) .short root
+
+  pub names-inodes : GoodInodes (view (word v)) (word v 1) (namesIn v root)
+  names-inodes = inodes-of u (word v 1) (namesIn v root) (λ k h. let c = child v g root k h in record { below = c .1; valid = c .2 })

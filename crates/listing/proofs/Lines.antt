@@ -31,7 +31,8 @@ module _ (l : List ℕ) (at r : ℕ) (m : List ℕ) where
   line-put l₁ l₂ l₃ l₄ n a b c d x y p₁ p₂ p₃ p₄ p₅ = emitted-both (emitted-both (emitted-both p₁ p₂) (emitted-both p₃ p₄)) p₅
 
 -- the room of a line
-pub line-room : (at x y : ℕ) (n : List ℕ) → at + length (nameLine x y n) ≤ 9728 → at + 3 + length (decimal x) + length (decimal y) + length n ≤ 9728
+pub line-room : (at x y : ℕ) (n : List ℕ) → at + length (nameLine x y n) ≤ 11264
+    → at + 3 + length (decimal x) + length (decimal y) + length n ≤ 11264
 unfolding nameLine
 line-room at x y n h = let l = simp length-append at h in omega arith
 
@@ -53,7 +54,7 @@ module _ (m : Mem) (L p : ℕ) (ok : placeOk m L p ≡ true) (i : ℕ) (b c : Li
   pub name-length : i ≡ length (take i c)
   name-length = rw (name-part, ← e)
 
-  pub name-room : (at : ℕ) → at + length (nameAt m (8 * p)) ≤ 9728 → at + length (take i c) ≤ 9728
+  pub name-room : (at : ℕ) → at + length (nameAt m (8 * p)) ≤ 11264 → at + length (take i c) ≤ 11264
   name-room at h = rw name-part h
 
   pub name-put : (l n : List ℕ) (at r : ℕ) → Emitted l at (take i c) r n → Emitted l at (nameAt m (8 * p)) r n

@@ -12,7 +12,7 @@ module _ (l : List ℕ) (at : ℕ) (xs m : List ℕ) (a i : ℕ) (q : Rest l at 
     from : drop i xs ≡ (getD xs i 0 ∷ []) ++ drop (i + 1) xs
     from = rw (add-one, drop-cons xs i 0 h)
 
-    pub byte-room : at + length xs ≤ 9728 → a + 1 ≤ 9728
+    pub byte-room : at + length xs ≤ 11264 → a + 1 ≤ 11264
     byte-room r = let e = q .end in let d = length-drop i xs in omega arith
 
     pub byte-next : (n : List ℕ) (b : ℕ) → Emitted m a (getD xs i 0 ∷ []) b n → Rest l at xs n b (drop (i + 1) xs)
@@ -29,16 +29,16 @@ module _ (l : List ℕ) (at x d : ℕ) (e : d ≡ 48 + x % 10) (r : ℕ) (m : Li
   pub number-more : (a : ℕ) (n : List ℕ) → 10 ≤ x → x < 2 ^ 64 → Emitted l at (decimal (x / 10)) a n → Emitted n a (d ∷ []) r m → Emitted l at (decimal x) r m
   number-more a n h s p q = rw (decimal-more x h s, ← e) (emitted-both p q)
 
-module _ (at x : ℕ) (r : at + length (decimal x) ≤ 9728) where
-  pub room-one : x < 10 → at + 1 ≤ 9728
+module _ (at x : ℕ) (r : at + length (decimal x) ≤ 11264) where
+  pub room-one : x < 10 → at + 1 ≤ 11264
   room-one h = let d = rw (decimal-one x h) at r in omega arith
 
   module _ (h : 10 ≤ x) (s : x < 2 ^ 64) where
-    longer : at + length (decimal (x / 10)) + 1 ≤ 9728
+    longer : at + length (decimal (x / 10)) + 1 ≤ 11264
     longer = let d = rw (decimal-more x h s, length-append) at r in omega arith
 
-    pub room-before : at + length (decimal (x / 10)) ≤ 9728
+    pub room-before : at + length (decimal (x / 10)) ≤ 11264
     room-before = let d = longer in omega arith
 
-    pub room-last : (l n : List ℕ) (a : ℕ) → Emitted l at (decimal (x / 10)) a n → a + 1 ≤ 9728
+    pub room-last : (l n : List ℕ) (a : ℕ) → Emitted l at (decimal (x / 10)) a n → a + 1 ≤ 11264
     room-last l n a p = let d = longer in let e = p .end in omega arith

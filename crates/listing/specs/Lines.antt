@@ -1,26 +1,29 @@
--- What the functions that put lines ask of a volume's files.
+-- What the functions that put lines ask of the names of a volume v.
 use Prim.Native.Nat.{ℕ, _+_, _*_, _<_}
 use mathlib.Core.Path.{_≡_}
 use mathlib.Core.Bool.{true}
 use mathlib.Core.List.{List, [], _∷_}
-use Rattle.model.specs.Words.{Mem}
+use Rattle.model.specs.Words.{Mem, word}
 use Rattle.model.specs.Journal.{view}
-use Rattle.model.specs.State.{Names, fileOf}
-use Rattle.model.specs.Accept.{logOk}
-use Rattle.model.specs.Listing.{nameLine}
+use Rattle.model.specs.State.{Names}
+use Rattle.model.specs.Accept.{isValid}
+use Rattle.model.specs.Listing.{nameLine, nameLines}
 use Rattle.directory.specs.Fields.{nameAt}
+use Rattle.totals.specs.Totals.{countsIn}
 
--- inode k is one of N and not the directory's, and its log is good
-pub record GoodFile (u : Mem) (P N k : ℕ) : Type 0 where
-  pub above : 0 < k
+-- inode k is one of N, and valid
+pub record GoodInode (u : Mem) (N k : ℕ) : Type 0 where
   pub below : k < N
-  pub log : logOk u P N k ≡ true
+  pub valid : isValid u k ≡ true
 
 -- each of the names leads to such an inode
-unfoldable pub GoodFiles : Mem → ℕ → ℕ → Names → Type 0
-GoodFiles u P N [] = Unit {0}
-GoodFiles u P N (p ∷ ps) = GoodFile u P N (p .1) × GoodFiles u P N ps
+unfoldable pub GoodInodes : Mem → ℕ → Names → Type 0
+GoodInodes u N [] = Unit {0}
+GoodInodes u N (p ∷ ps) = GoodInode u N (p .1) × GoodInodes u N ps
 
--- the line of the name of the entry at place p, in a volume with the words m
-abbrev pub lineOf : Mem → ℕ → ℕ → ℕ → List ℕ
-lineOf m P N p = nameLine (m (8 * p + 1)) (fileOf (view m) P N (m (8 * p + 1)) .size) (nameAt m (8 * p))
+-- the line of the name of the entry at place p, and the lines of names
+abbrev pub lineOf : List ℕ → ℕ → List ℕ
+lineOf v p = nameLine (word v (8 * p + 1)) (countsIn v (word v 1) (word v (8 * p + 1))) (nameAt (word v) (8 * p))
+
+abbrev pub linesOf : List ℕ → Names → List ℕ
+linesOf v ns = nameLines (view (word v)) (word v 0) (word v 1) ns

@@ -6,7 +6,7 @@ use Rattle.model.specs.Layout.{headWord, tailWord, footer, inPages}
 use Rattle.model.specs.Journal.{view, journalOk}
 use Rattle.model.specs.Entry.{entryAt}
 use Rattle.model.specs.Log.{walk, entryWords, tailOk, tailSlots, pagesOf, logPages, pages, entries}
-use Rattle.model.proofs.Tests.{by-bool, by-eq, not-true-false}
+use Rattle.model.proofs.Tests.{by-bool, by-eq, no, not-true-false}
 use Rattle.model.proofs.Lists.{all-has}
 use Rattle.model.proofs.Log.Chain.{walk-chain, chain-inside}
 use Rattle.model.proofs.Log.Extend.{tail-ok, tail-slots}
@@ -123,6 +123,20 @@ module _ (m : Mem) (L P N k b t : ℕ) (ready : Ready m L P N) (y : b ≡ tailWo
     pub end-low : t / 64 < 65536
     end-low = let c = reading .end in let d = ready .pages in omega arith
 
+    -- it starts with a page, and ends behind an entry
+    start-page : startOf (view m (headWord k)) t % 8 ≡ 0
+    unfolding startOf
+    start-page = by-eq t 0 (λ z. rw z) (λ z. rw (ne-eqb t 0 z) (omega arith))
+
+    end-slot : (t / 64 ≡ 0 → ⊥) → t / 64 % 8 ≡ 0 → ⊥
+    unfolding pagesOf
+    end-slot z f =
+        let n = ne-eqb t 0 (λ o. z (omega arith)) in
+        by-bool (tailOk t) (λ o. slot (tail-slots t o)) (λ o. no (rw (← pages-are, n, o) at s))
+      where
+        slot : (t % 512 ≡ 64 * (t % 512 / 64)) × (1 ≤ t % 512 / 64) × (t % 512 / 64 ≤ 7) → ⊥
+        slot a = let b : t / 64 ≡ 8 * (t / 512) + t % 512 / 64 = omega (arith, a .0) in omega (arith, a .1, a .2)
+
     log-from : (p q : ℕ) → p ≡ startOf (view m (headWord k)) t → q ≡ t / 64 → LogOf m L P N k (record { start = p; end = q; pages = P })
     unfolding entriesFrom
     log-from p q c d =
@@ -137,6 +151,8 @@ module _ (m : Mem) (L P N k b t : ℕ) (ready : Ready m L P N) (y : b ≡ tailWo
           apart = rw (w, e) (log-apart (view m) P N k);
           placed = rw (w, e) (log-placed (view m) P N k);
           entries-are = rw w f;
+          from-page = rw c start-page;
+          to-slot = rw d end-slot;
         }
 
     pub log-none : t ≡ 0 → LogOf m L P N k (record { start = 0; end = 0; pages = P })

@@ -36,3 +36,5 @@ pub record LogOf (m : Mem) (L P N k : ℕ) (r : Log) : Type 0 where
   pub apart : distinct (logWords m r) ≡ true
   pub placed : all isPlaced (logWords m r) ≡ true
   pub entries-are : logEntries m r ≡ entries (view m) P N k
+  pub from-page : r .start % 8 ≡ 0
+  pub to-slot : (r .end ≡ 0 → ⊥) → r .end % 8 ≡ 0 → ⊥

@@ -3,7 +3,7 @@
 use Rattle.model.proofs.Prelude.{ℕ, zero, suc, _+_, _≤_, _<_, _≡_, refl, sym, _∙_, true, false, _&&_, List, [], _∷_, _++_, arith, add-zero, zero-add, length, getD, set, replicate, length-set, getD-replicate, length-replicate, List·getD-eq-default, getD-set-same, getD-set-other, eqb, eq-eqb, ne-eqb, eqb-true, le-leb, lt-leb}
 use Rattle.model.specs.Lists.{bit, all, has, count, sumBelow, allBelow}
 use Rattle.model.specs.Words.{Mem}
-use Rattle.model.specs.Layout.{inPages, filePages}
+use Rattle.model.specs.Layout.{inPages, isDirectory, filePages}
 use Rattle.model.specs.State.{File, fileOf}
 use Rattle.model.specs.Accept.{isValid, mappedTo, usesBy, uses, free, servesOnce}
 use Rattle.model.proofs.Tests.{by-bool, by-eq, by-lt, no, clash, not-true-false, cond-and, bit-same, bit-other}
@@ -103,8 +103,8 @@ module _ (u : Mem) (P N : ℕ) where
   unfolding usedBy usesBy count
   count-by p k l =
       by-bool (isValid u k)
-      (λ v. by-eq k 0 (λ z. rw (usedBy, usesBy, v, eq-eqb k 0 z, count-append))
-      (λ z. rw (usedBy, usesBy, v, ne-eqb k 0 z, count-append, count-mapped (fileOf u P N k) p l)))
+      (λ v. by-bool (isDirectory u k) (λ z. rw (usedBy, usesBy, v, z, count-append))
+      (λ z. rw (usedBy, usesBy, v, z, count-append, count-mapped (fileOf u P N k) p l)))
       (λ v. rw (usedBy, usesBy, v))
 
   count-below : (p k : ℕ) → 0 < p → count p (usedBelow u P N k) ≡ sumBelow k (usesBy u P N p)

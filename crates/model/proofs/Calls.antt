@@ -8,6 +8,7 @@ pub mod Small
 pub mod Grown
 pub mod Actions
 pub mod Names
+pub mod Logs
 pub mod NameCalls
 pub mod Files
 pub mod Clean

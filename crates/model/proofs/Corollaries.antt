@@ -1,5 +1,5 @@
--- What follows from the third demand: finished calls are kept, a cut leaves one of two maps, and a recovery run through keeps the map. Each by
--- induction over the events, from the claim's step.
+-- What follows from the third demand: finished calls are kept, a cut leaves one of two maps, and a recovery run through keeps the map. Each
+-- by induction over the events, from the claim's step.
 use Rattle.model.proofs.Prelude.{_≡_, refl, sym, _∙_, _⊎_, inl, inr, ⊎-elim, ⊎-map, ℕ, Bool, true, List, [], _∷_, arith}
 use Rattle.model.specs.Words.{word}
 use Rattle.model.specs.FileMap.{FileMap, mapAfter, Call, recover}
@@ -24,6 +24,13 @@ bytes-after v b e = go (answerTo v e)
     go : (a : Answer (List ℕ)) → Bytes (landing 8 (e .power) v a)
     go (refused n) = b
     go (done l) = leaves-bytes 8 (e .power) v l b
+
+-- what holds of the map before a call and of the map after it holds of the map that is left
+pub either : (Q : FileMap → Type 0) (v v′ : List ℕ) (c : Call) (p : Power) (r : Answer (List ℕ)) → Demanded v v′ c p r
+    → Q (mapIn v) → Q (mapAfter (word v 1) c (mapIn v)) → Q (mapIn v′)
+either Q v v′ c p (refused n) d f g = rw d f
+either Q v v′ c held (done l) d f g = rw (d .1) g
+either Q v v′ c (cut h kept) (done l) d f g = ⊎-elim (λ q. rw q f) (λ q. rw q g) d
 
 -- Finished calls are kept.
 
@@ -73,12 +80,9 @@ at-most-two v b a c n l g₁ g₂ g₃ k₁ k₂ k₃ =
 
 recover-keeps : (v : List ℕ) → Bytes v → isAccepted v ≡ true → (l : ℕ) (p : Power) → mapIn (volumeAfter 8 v (recoverWith l p)) ≡ mapIn v
 unfolding mapAfter
-recover-keeps v b a l p = go p (answerTo v (recoverWith l p)) (step v b a (recoverWith l p) tt .demanded)
-  where
-    go : (q : Power) (r : Answer (List ℕ)) → Demanded v (volumeAfter 8 v (recoverWith l p)) recover q r → mapIn (volumeAfter 8 v (recoverWith l p)) ≡ mapIn v
-    go q (refused k) d = d
-    go held (done ws) d = d .1
-    go (cut g kept) (done ws) d = ⊎-elim (λ h. h) (λ h. h) d
+recover-keeps v b a l p =
+    let e = recoverWith l p in
+    either (λ M. M ≡ mapIn v) v (volumeAfter 8 v e) recover p (answerTo v e) (step v b a e tt .demanded) refl refl
 
 -- what recoveries leave, however they were cut
 record Before (v w : List ℕ) : Type 0 where

@@ -1,24 +1,27 @@
--- Format: up to the end of the table every word but 0, 1, 2 and 64 is 0. So the journal is closed, the directory's log is empty and no file is valid.
-use Rattle.model.proofs.Prelude.{_≡_, sym, _∙_, ℕ, _+_, _-_, _*_, _≤_, _<_, true, false, cond, List, [], _++_, none, arith, length, getD, drop, replicate, length-append, length-drop, length-replicate, getD-replicate, List·getD-append, eqb, eq-eqb, ne-eqb, lt-ltb, le-ltb}
+-- Format: up to the end of the table every word but 0, 1, 2 and 64 is 0. So the journal is closed, inode 0's log is empty and no other
+-- inode is valid.
+use Rattle.model.proofs.Prelude.{_≡_, sym, _∙_, ℕ, _+_, _-_, _*_, _≤_, _<_, true, false, cond, and-false, List, [], _++_, none, some, arith, length, getD, drop, replicate, length-append, length-drop, length-replicate, getD-replicate, List·getD-append, eqb, eq-eqb, ne-eqb, lt-ltb, le-ltb}
 use Rattle.model.specs.Lists.{bit, all, count, foldl}
 use Rattle.model.specs.Words.{Mem, word, putWord}
-use Rattle.model.specs.Layout.{sizesOk, tablePages, validWord, tailWord, inPages, root}
+use Rattle.model.specs.Layout.{sizesOk, tablePages, validWord, tailWord, isDirectory, inPages, root}
 use Rattle.model.specs.Journal.{dequeueWord, enqueueWord, isOpen}
 use Rattle.model.specs.Log.{pages}
-use Rattle.model.specs.State.{namesOf}
-use Rattle.model.specs.Accept.{usesBy, uses, free, freeCount, validOk, logOk, namesOk, inodeOk, accepted}
+use Rattle.model.specs.State.{namesOf, inodes}
+use Rattle.model.specs.Accept.{isValid, foldersOf, usesBy, uses, free, freeCount, validOk, typeOk, logOk, inodeOk, accepted}
 use Rattle.model.specs.FileMap.{mapOf}
 use Rattle.model.specs.Answer.{done}
 use Rattle.model.specs.Public.{isVolume, isAccepted, formatted, format, formatAnswer, formatVolume, freeAnswer}
 use Rattle.model.specs.Claim.{mapIn}
 use Rattle.model.specs.Promises.{Formatted, FormatDone}
-use Rattle.model.proofs.Tests.{by-eq, by-lt}
+use Rattle.model.proofs.Tests.{by-eq, by-lt, no}
 use Rattle.model.proofs.Lists.{sumBelow-from}
 use Rattle.model.proofs.Words.{leFrom-same, word-put, length-putWord}
 use Rattle.model.proofs.Log.Pages.{Reads}
 use Rattle.model.proofs.Log.Extend.{empty-log}
 use Rattle.model.proofs.Frame.View.{Fine, fine-view}
-use Rattle.model.proofs.State.NamesFine.{fine-names}
+use Rattle.model.proofs.Tree.{top}
+use Rattle.model.proofs.State.Folders.{FoldersFine}
+use Rattle.model.proofs.State.FoldersOk.{fine-folders}
 use Rattle.model.proofs.Crash.Journal.{closed-view, closed-ok, equal-closed}
 use Rattle.model.proofs.Crash.Landing.{Sizes, sizes-parts}
 use Rattle.model.proofs.Crash.Commit.{accepted-of}
@@ -68,7 +71,8 @@ module _ (v : List ℕ) (P N : ℕ) (sizes : sizesOk P N ≡ true) (whole : leng
       )
 
   zero-at : (w : ℕ) → 3 ≤ w → w < 64 * (tablePages N + 1) → (w ≡ 64 → ⊥) → m w ≡ 0
-  zero-at w g h n = word-at w ∙ rw (ne-eqb w 64 n, ne-eqb w 2 (omega arith), ne-eqb w 1 (omega arith), ne-eqb w 0 (omega arith)) (zeros-at w h)
+  zero-at w g h n =
+      word-at w ∙ rw (ne-eqb w 64 n, ne-eqb w 2 (omega arith), ne-eqb w 1 (omega arith), ne-eqb w 0 (omega arith)) (zeros-at w h)
 
   -- What is read of them.
 
@@ -94,7 +98,22 @@ module _ (v : List ℕ) (P N : ℕ) (sizes : sizesOk P N ≡ true) (whole : leng
   no-files : (k : ℕ) → mapOf m P N .files k ≡ none
   unfolding mapOf
   no-files k =
-      by-lt k N (λ l. rw (lt-ltb k N l) (by-eq k 0 (λ e. rw e) (λ e. rw (ne-eqb k 0 e, invalid k l e)))) (λ l. rw (le-ltb k N l))
+      by-lt k N (λ l. rw (lt-ltb k N l) (by-eq k 0 (λ e. rw e) (λ e. rw (invalid k l e, and-false)))) (λ l. rw (le-ltb k N l))
+
+  -- inode 0 is the only folder, and has no names
+  one-folder : (k : ℕ) → mapOf m P N .folders k ≡ cond (eqb k root) (some []) none
+  unfolding mapOf
+  one-folder k =
+      by-lt k N
+      (λ l. rw (lt-ltb k N l) (by-eq k 0 (λ e. rw (e, word-at 64, no-names)) (λ e. rw (ne-eqb k 0 e, invalid k l e, and-false))))
+      (λ l. rw (le-ltb k N l, ne-eqb k 0 (omega (arith, s .some-inodes))))
+
+  empty-folders : (d : ℕ) → foldersOf m P N d ≡ []
+  unfolding foldersOf
+  empty-folders d =
+      by-lt d N
+      (λ l. rw (lt-ltb d N l) (by-eq d 0 (λ e. rw (e, word-at 64, no-names)) (λ e. rw (invalid d l e, and-false))))
+      (λ l. rw (le-ltb d N l))
 
   no-uses : (p : ℕ) → uses m P N p ≡ 0
   unfolding uses usesBy pages count
@@ -113,22 +132,34 @@ module _ (v : List ℕ) (P N : ℕ) (sizes : sizesOk P N ≡ true) (whole : leng
   -- It is accepted.
 
   inodes-ok : (k : ℕ) → k < N → inodeOk m P N k ≡ true
-  unfolding inodeOk validOk logOk all
+  unfolding inodeOk validOk typeOk logOk all
   inodes-ok k l = by-eq k 0 (λ e. rw (e, word-at 64, empty .0, empty .1)) (λ e. rw (ne-eqb k 0 e, invalid k l e))
 
-  names-ok : namesOk m N [] ≡ true
+  no-child : {X : Type 0} (d k : ℕ) → 1 ≤ count k (inodes (foldersOf m P N d)) → X
   unfolding count
-  names-ok =
-      fine-names m N [] (record {
-        short = omega arith;
-        valid = λ k c. absurd (omega arith);
-        named = λ k l g e. let z = invalid k l (λ q. omega arith) in absurd (omega arith);
-      })
+  no-child d k h = let z : 1 ≤ count k (inodes []) = rw (empty-folders d) at h in absurd (omega arith)
+
+  not-valid : {X : Type 0} (k : ℕ) → k < N → (k ≡ 0 → ⊥) → isValid m k ≡ true → X
+  not-valid k l n v = no (rw (invalid k l n) at v)
+
+  folders-ok : FoldersFine N (isValid m) (isDirectory m) (foldersOf m P N)
+  folders-ok = record {
+    distinct = λ d. rw (empty-folders d) tt;
+    short = λ d. rw (empty-folders d) (omega arith);
+    child = λ d k h. no-child d k h;
+    folder = λ d k h. no-child d k h;
+    named = λ k l g v. not-valid k l (omega arith) v;
+    once = λ k l g v f. not-valid k l (omega arith) v;
+    reached = λ k l v f. by-eq k 0 (λ z. rw z top) (λ z. not-valid k l z v);
+  }
 
   ok : accepted m P N ≡ true
   ok =
-      let fine : Fine m P N = record { inodes = inodes-ok; names = rw no-names names-ok; once = λ p l n. let z = no-uses p in omega arith } in
-      accepted-of m P N (closed-ok m N (omega (arith, dequeue)) (omega (arith, enqueue)) closed) (rw (closed-view m closed) (fine-view m P N fine))
+      let f = fine-folders m P N (omega (arith, s .some-inodes)) folders-ok in
+      let fine : Fine m P N =
+      record { inodes = inodes-ok; folders = λ d l. f .0 d; named = f .1; once = λ p l n. let z = no-uses p in omega arith } in
+      accepted-of m P N (closed-ok m N (omega (arith, dequeue)) (omega (arith, enqueue)) closed)
+      (rw (closed-view m closed) (fine-view m P N fine))
 
   is-accepted : isAccepted (formatted v P N) ≡ true
   unfolding isAccepted isVolume
@@ -160,7 +191,7 @@ module _ (v : List ℕ) (P N : ℕ) (sizes : sizesOk P N ≡ true) (whole : leng
         is-closed = rw volume-is closed;
         pages = rw volume-is (word-at 0);
         inodes = rw volume-is (word-at 1);
-        no-names = rw (volume-is, map-is) no-names;
+        no-names = λ k. rw (volume-is, map-is) (one-folder k);
         no-files = λ k. rw (volume-is, map-is) (no-files k);
         free = rw volume-is free-is;
       }

@@ -1,29 +1,30 @@
 -- How long the store lists are: the words that a group stores stand in a list, and the group's text has two words for each of them at most.
-use Rattle.model.proofs.Prelude.{_≡_, refl, ℕ, zero, suc, _+_, _-_, _*_, _/_, _%_, _≤_, _<_, Bool, true, false, cond, _&&_, List, [], _∷_, _++_, Option, none, some, arith, length, getD, length-append, length-map, leb, ltb, eqb, leb-true, ltb-true, ltb-false, eq-eqb, ne-eqb, le-leb, lt-leb}
+use Rattle.model.proofs.Prelude.{_≡_, refl, ℕ, zero, suc, _+_, _-_, _*_, _/_, _%_, _≤_, _<_, Bool, true, false, cond, _&&_, List, [], _∷_, _++_, Option, none, some, arith, length, getD, length-append, length-map, leb, ltb, eqb, not, not-false, leb-false, lt-ltb, leb-true, ltb-true, ltb-false, eq-eqb, ne-eqb, le-leb, lt-leb}
 use Rattle.model.specs.Lists.{bit, valuesFrom, has, indexOf, orElse}
 use Rattle.model.specs.Words.{Mem}
-use Rattle.model.specs.Layout.{headWord, tailWord, footer, root, listWords}
+use Rattle.model.specs.Layout.{headWord, tailWord, typeWord, isDirectory, footer, listWords}
 use Rattle.model.specs.Journal.{dequeueWord, enqueueWord, targetWord, oldWord, nextPosition, positions, openCount, openPositions, openTargets, isOpen, view, journalOk}
 use Rattle.model.specs.Log.{tailSlots}
-use Rattle.model.specs.State.{fileOf, namesOf, inodeOf}
-use Rattle.model.specs.Accept.{free, namesOk, viewOk, accepted}
-use Rattle.model.specs.FileMap.{Call, create, link, unlink, rename, write, setSize, clean, recover}
+use Rattle.model.specs.Entry.{addWords, removeWords}
+use Rattle.model.specs.State.{fileOf, namesOf}
+use Rattle.model.specs.Tree.{nameCount}
+use Rattle.model.specs.Accept.{isValid, foldersOf, free, viewOk, accepted}
+use Rattle.model.specs.FileMap.{Call, create, createFolder, link, unlink, rename, write, setSize, clean, recover}
 use Rattle.model.specs.Stores.{Stores, oneWord, noWords, both, onlyIf, listed, storeList}
-use Rattle.model.specs.Calls.{layEntries, layPages, tailAfter, pagesFor, tailPages, Change, commitOne, journalPairs, targets, commitTogether, commit, stretchEntries, Append, entriesOnly, dataPages, appended, freshPages, freshLog, prepared, allPrepared, allChanges, actionChecks, actionGroups, release, invalidInode, createAction, linkAction, unlinkAction, sameInode, renameAction, writeAppend, writeAction, cutsPage, sizeAppend, sizeAction, cleanNames, cleanEntries, cleanAction, oldValues, recoverAction, action, checks, groups}
+use Rattle.model.specs.Calls.{layEntries, layPages, tailAfter, pagesFor, tailPages, Change, commitOne, journalPairs, targets, commitTogether, commit, stretchEntries, Append, entriesOnly, dataPages, appended, freshPages, freshLog, pagesLeft, prepared, allPrepared, allChanges, actionChecks, actionGroups, noneThere, leadsTo, stands, release, invalidInode, createAction, linkAction, unlinkAction, sameInode, renameAppends, renameAction, fileChecks, writeAppend, writeAction, cutsPage, sizeAppend, sizeAction, cleanNames, cleanEntries, cleanAction, oldValues, recoverAction, action, checks, groups}
 use Rattle.model.specs.Promises.{mostWords}
-use Rattle.model.proofs.Tests.{by-bool, by-eq, by-lt, ands, cond-some, bit-le}
+use Rattle.model.proofs.Tests.{by-bool, by-eq, by-lt, ands, or-false, cond-some, bit-le}
 use Rattle.model.proofs.Lists.{length-values, has-left, has-right, values-has, getD-index, has-head, few-length}
-use Rattle.model.proofs.Frame.View.{view-fine}
-use Rattle.model.proofs.State.NamesAfter.{lastName, release-is}
+use Rattle.model.proofs.State.FoldersOk.{folders-fine}
 use Rattle.model.proofs.State.Stretches.{stretches-length}
 use Rattle.model.proofs.State.Clean.{clean-file-length}
 use Rattle.model.proofs.Crash.Stores.{Only, only-none, only-word, only-both}
 use Rattle.model.proofs.Crash.Journal.{journal-parts, targetsOf, targets-in}
 use Rattle.model.proofs.Crash.History.{Passed}
 use Rattle.model.proofs.Calls.DataPages.{pages-few}
-use Rattle.model.proofs.Calls.Room.{free-bounds}
+use Rattle.model.proofs.Calls.Room.{free-bounds, left-may}
 use Rattle.model.proofs.Calls.Stored.{fresh-on, prepared-on, changes-on}
-use Rattle.model.proofs.Calls.Actions.{both-none, one-prepared, one-changes, only-entries, fresh-anew, anew-prepared, anew-changes}
+use Rattle.model.proofs.Calls.Actions.{both-none, one-prepared, one-changes, two-prepared, two-changes, only-entries, fresh-anew, anew-prepared, anew-changes}
 
 -- The text of a group.
 
@@ -90,7 +91,9 @@ most-pairs : (u : Mem) (i : ℕ) (cs : List Change) → AtMost (journalPairs u i
 unfolding journalPairs both
 most-pairs u i [] = most-none
 most-pairs u i (c ∷ cs) =
-    most-less (most-both (most-word (targetWord i) (c .0)) (most-both (most-word (oldWord i) (u (c .0))) (most-pairs u (nextPosition i) cs))) (omega arith)
+    most-less
+    (most-both (most-word (targetWord i) (c .0)) (most-both (most-word (oldWord i) (u (c .0))) (most-pairs u (nextPosition i) cs)))
+    (omega arith)
 
 most-targets : (cs : List Change) → AtMost (targets cs) (length cs)
 most-targets cs = record { words = targetsOf cs; number = rw length-map (omega arith); only = targets-in cs }
@@ -175,14 +178,11 @@ most-pages ps f =
           rw q at (values-has at 0 (64 * length ps) j (omega arith) (omega arith));
     }
 
--- An append. Its data has an entry for each page at most.
-module _ (u : Mem) (P N : ℕ) (a : Append) where
-  abbrev f : ℕ → Bool
-  f = free u P N
-
+-- An append that takes pages of which f holds. Its data has an entry for each page at most.
+module _ (u : Mem) (P : ℕ) (f : ℕ → Bool) (bound : (p : ℕ) → f p ≡ true → p < P) (a : Append) where
   data-length : length (dataPages u P f a) ≤ a .count
   unfolding dataPages
-  data-length = pages-few f P (λ p h. free-bounds u P N p h .1) (a .count)
+  data-length = pages-few f P bound (a .count)
 
   few-entries : length (appended u P f a) ≤ length (a .entries) + a .count
   unfolding appended stretchEntries
@@ -247,56 +247,109 @@ module _ (W : ℕ) where
   commit-short u m c [] l = let r = one-short m c in omega arith
   commit-short u m c (d ∷ cs) l = let r = together-short u m (c ∷ d ∷ cs) in omega arith
 
+  -- several words are committed through the journal
+  several-short : {s : Stores} {n : ℕ} (u : Mem) → AtMost s n → (c d : Change) (cs : List Change) → length cs ≤ 1
+      → length (storeList W (commit u s (c ∷ d ∷ cs))) ≤ 2 * n + 30
+  unfolding commit
+  several-short u m c d cs l = let r = together-short u m (c ∷ d ∷ cs) in omega arith
+
   -- An append that goes on, with n words in the first group: committed by its tail alone, or with another word.
   module _ (u : Mem) (P N : ℕ) (a : Append) (on : a .anew ≡ false) where
     abbrev listOf : Stores → List Change → List ℕ
     listOf t cs = storeList W (commit u (both (allPrepared u P (free u P N) (a ∷ [])) t) (allChanges u P (free u P N) (a ∷ []) ++ cs))
 
-    append-short : (n : ℕ) (t : Stores) → AtMost (both (prepared u P (free u P N) a) t) n → (cs : List Change) → length cs ≤ 1 → length (listOf t cs) ≤ 2 * n + 24
+    append-short : (n : ℕ) (t : Stores) → AtMost (both (prepared u P (free u P N) a) t) n → (cs : List Change) → length cs ≤ 1
+        → length (listOf t cs) ≤ 2 * n + 24
     append-short n t m cs l =
         rw (one-prepared u P (free u P N) a, one-changes u P (free u P N) a, changes-on u P (free u P N) a on) (commit-short u m _ cs l)
 
     alone-short : (n : ℕ) → AtMost (prepared u P (free u P N) a) n → length (listOf noWords []) ≤ 2 * n + 6
     unfolding commit
     alone-short n m =
-        rw (one-prepared u P (free u P N) a, both-none (prepared u P (free u P N) a), one-changes u P (free u P N) a, changes-on u P (free u P N) a on) (one-short m _)
+        rw (
+          one-prepared u P (free u P N) a,
+          both-none (prepared u P (free u P N) a),
+          one-changes u P (free u P N) a,
+          changes-on u P (free u P N) a on,
+        ) (one-short m _)
+
+  -- Two appends that go on, with n words in the first group: the tails are committed through the journal, with another word or without.
+  module _ (u : Mem) (P N : ℕ) (a b : Append) (on-a : a .anew ≡ false) (on-b : b .anew ≡ false) where
+    two-short : (n : ℕ) → AtMost (both (prepared u P (free u P N) a) (prepared u P (pagesLeft u P (free u P N) a) b)) n → (cs : List Change)
+        → length cs ≤ 1
+        → length (storeList W
+        (commit u (both (allPrepared u P (free u P N) (a ∷ b ∷ [])) noWords) (allChanges u P (free u P N) (a ∷ b ∷ []) ++ cs))) ≤ 2 * n + 30
+    two-short n m cs l =
+        rw (
+          two-prepared u P (free u P N) a b on-a on-b,
+          both-none (both (prepared u P (free u P N) a) (prepared u P (pagesLeft u P (free u P N) a) b)),
+          two-changes u P (free u P N) a b on-a on-b,
+        )
+        (several-short u m _ _ cs l)
 
   -- Each call, in any memory u.
   module _ (u : Mem) (P N : ℕ) where
-    -- Names, in directory d.
+    bound : (p : ℕ) → free u P N p ≡ true → p < P
+    bound p h = free-bounds u P N p h .1
 
-    most-entries : (d : ℕ) (es : List (List ℕ)) → length es ≤ 6 → AtMost (prepared u P (free u P N) (entriesOnly false d es)) (8 * length es + 1)
+    -- Names, in folder d.
+
+    most-entries-in : (f : ℕ → Bool) → ((p : ℕ) → f p ≡ true → p < P) → (d : ℕ) (es : List (List ℕ)) → length es ≤ 6
+        → AtMost (prepared u P f (entriesOnly false d es)) (8 * length es + 1)
     unfolding entriesOnly
-    most-entries d es l =
-        let e = only-entries u P (free u P N) false d es in
-        most-less (most-prepared u P N (entriesOnly false d es) refl) (rw e (omega arith))
+    most-entries-in f b d es l =
+        let e = only-entries u P f false d es in
+        most-less (most-prepared u P f b (entriesOnly false d es) refl) (rw e (omega arith))
+
+    most-entries : (d : ℕ) (es : List (List ℕ)) → length es ≤ 6
+        → AtMost (prepared u P (free u P N) (entriesOnly false d es)) (8 * length es + 1)
+    most-entries d es l = most-entries-in (free u P N) bound d es l
 
     release-short : (d : ℕ) (n : List ℕ) → length (release u P N d n) ≤ 1
+    unfolding release
     release-short d n =
-        rw release-is (by-bool (lastName (namesOf u P N d) (inodeOf (namesOf u P N d) n)) (λ e. rw e (omega arith)) (λ e. rw e (omega arith)))
+        by-bool (stands u P N d n && eqb (nameCount N (foldersOf u P N) (leadsTo u P N d n)) 1) (λ e. rw e (omega arith))
+        (λ e. rw e (omega arith))
 
-    create-short : (d : ℕ) (n : List ℕ) → length (storeList W (actionGroups u P N (createAction u P N d n))) ≤ 46
+    create-short : (t d : ℕ) (n : List ℕ) → length (storeList W (actionGroups u P N (createAction u P N t d n))) ≤ 48
     unfolding actionGroups createAction entriesOnly
-    create-short d n =
+    create-short t d n =
         let i = orElse (invalidInode u P N) 0 in
-        append-short u P N _ refl 11 _ (most-both (most-entries d _ (omega arith)) (most-both (most-word (headWord i) 0) (most-word (tailWord i) 0))) _ (omega arith)
+        append-short u P N _ refl 12 _ (most-both (most-entries d _ (omega arith))
+        (most-both (most-word (headWord i) 0) (most-both (most-word (tailWord i) 0) (most-word (typeWord i) t)))) _ (omega arith)
 
-    link-short : (d : ℕ) (a b : List ℕ) → length (storeList W (actionGroups u P N (linkAction u P N d a b))) ≤ 24
+    link-short : (d : ℕ) (a : List ℕ) (e : ℕ) (b : List ℕ) → length (storeList W (actionGroups u P N (linkAction u P N d a e b))) ≤ 24
     unfolding actionGroups linkAction entriesOnly
-    link-short d a b = alone-short u P N _ refl 9 (most-entries d _ (omega arith))
+    link-short d a e b = alone-short u P N _ refl 9 (most-entries e _ (omega arith))
 
-    most-alone : (d : ℕ) (es : List (List ℕ)) → length es ≤ 6 → AtMost (both (prepared u P (free u P N) (entriesOnly false d es)) noWords) (8 * length es + 1)
+    most-alone : (d : ℕ) (es : List (List ℕ)) → length es ≤ 6
+        → AtMost (both (prepared u P (free u P N) (entriesOnly false d es)) noWords) (8 * length es + 1)
     most-alone d es l = rw (both-none (prepared u P (free u P N) (entriesOnly false d es))) (most-entries d es l)
 
     unlink-short : (d : ℕ) (n : List ℕ) → length (storeList W (actionGroups u P N (unlinkAction u P N d n))) ≤ 42
     unfolding actionGroups unlinkAction entriesOnly
     unlink-short d n = append-short u P N _ refl 9 noWords (most-alone d _ (omega arith)) _ (release-short d n)
 
-    rename-short : (d : ℕ) (a b : List ℕ) → length (storeList W (actionGroups u P N (renameAction u P N d a b))) ≤ 58
-    unfolding actionGroups renameAction entriesOnly storeList
-    rename-short d a b =
-        by-bool (sameInode u P N d a b) (λ e. rw e (omega arith))
-        (λ e. rw e (append-short u P N _ refl 17 noWords (most-alone d _ (omega arith)) _ (release-short d b)))
+    goes-on : (k : ℕ) (es : List (List ℕ)) → entriesOnly false k es .anew ≡ false
+    unfolding entriesOnly
+    goes-on k es = refl
+
+    rename-short : (d : ℕ) (a : List ℕ) (e : ℕ) (b : List ℕ)
+        → length (storeList W (actionGroups u P N (renameAction u P N d a e b))) ≤ cond (eqb d e) 58 66
+    unfolding actionGroups renameAction renameAppends storeList
+    rename-short d a e b =
+        let add = addWords (leadsTo u P N d a) b in
+        by-bool (sameInode u P N d a e b) (λ t. rw t (by-bool (eqb d e) (λ q. rw q (omega arith)) (λ q. rw q (omega arith))))
+        (λ t. rw t (by-bool (eqb d e)
+        (λ q. rw q (append-short u P N (entriesOnly false d (removeWords a ∷ add ∷ [])) (goes-on d (removeWords a ∷ add ∷ [])) 17 noWords
+        (most-alone d (removeWords a ∷ add ∷ []) (omega arith)) (release u P N e b) (release-short e b)))
+        (λ q. rw q
+        (two-short u P N (entriesOnly false d (removeWords a ∷ [])) (entriesOnly false e (add ∷ [])) (goes-on d (removeWords a ∷ []))
+        (goes-on e (add ∷ [])) 18
+        (most-both (most-entries d (removeWords a ∷ []) (omega arith))
+        (most-entries-in (pagesLeft u P (free u P N) (entriesOnly false d (removeWords a ∷ [])))
+        (λ p h. bound p (left-may u P N (free u P N) (entriesOnly false d (removeWords a ∷ [])) p h .0)) e (add ∷ []) (omega arith)))
+        (release u P N e b) (release-short e b)))))
 
     -- Files.
 
@@ -304,17 +357,17 @@ module _ (W : ℕ) where
     unfolding actionGroups writeAction writeAppend storeList
     write-short k o bs l =
         let a = writeAppend u P N k o bs in
-        let e = few-entries u P N a in
-        let r = alone-short u P N a refl 650 (most-less (most-prepared u P N a refl) (omega arith)) in
+        let e = few-entries u P (free u P N) bound a in
+        let r = alone-short u P N a refl 650 (most-less (most-prepared u P (free u P N) bound a refl) (omega arith)) in
         by-eq (length bs) 0 (λ e. rw (eq-eqb _ _ e) (omega arith)) (λ e. rw (ne-eqb _ _ e) (omega arith))
 
     size-short : (k s : ℕ) → length (storeList W (actionGroups u P N (sizeAction u P N k s))) ≤ 168
     unfolding actionGroups sizeAction sizeAppend storeList
     size-short k s =
         let a = sizeAppend u P N k s in
-        let e = few-entries u P N a in
+        let e = few-entries u P (free u P N) bound a in
         let b = bit-le (cutsPage u P N k s) in
-        let r = alone-short u P N a refl 81 (most-less (most-prepared u P N a refl) (omega arith)) in
+        let r = alone-short u P N a refl 81 (most-less (most-prepared u P (free u P N) bound a refl) (omega arith)) in
         by-bool (eqb s (fileOf u P N k .size)) (λ e. rw e (omega arith)) (λ e. rw e (omega arith))
 
     -- Clean.
@@ -327,20 +380,23 @@ module _ (W : ℕ) where
         let es = cleanEntries u P N k in
         let a = entriesOnly true k es in
         let ls = freshLog u P (free u P N) a in
-        let s = rw (fresh-anew u P (free u P N) k es) at (fresh-short u P N a) in
+        let s = rw (fresh-anew u P (free u P N) k es) at (fresh-short u P (free u P N) bound a) in
         let r = together-short u (most-laid ls 0 es) ((headWord k, getD ls 0 0) ∷ (tailWord k, tailAfter ls 0 (length es)) ∷ []) in
         by-bool (eqb (u (tailWord k)) 0) (λ e. rw e (omega arith))
         (λ e. rw (e, anew-prepared u P (free u P N) k es, anew-changes u P (free u P N) k es) (omega arith))
 
-    clean-short : (k : ℕ) → viewOk u P N ≡ true → length (storeList W (actionGroups u P N (cleanAction u P N k))) ≤ 3670
-    unfolding namesOk cleanEntries cleanNames
-    clean-short k ok =
-        by-eq k 0
-        (λ e.
-        let n = view-fine u P N ok .names in
-        let l : length (namesOf u P N root) ≤ 224 = leb-true _ 224 (search ands) in
-        clean-list k 224 (rw (e, length-map) l))
-        (λ e. let r = clean-list k 128 (rw (ne-eqb k 0 e) (clean-file-length (fileOf u P N k))) in omega arith)
+    folder-short : (k : ℕ) → viewOk u P N ≡ true → k < N → isValid u k ≡ true → isDirectory u k ≡ true → length (namesOf u P N k) ≤ 224
+    unfolding foldersOf
+    folder-short k ok l v c = rw (lt-ltb k N l, v, c) at (folders-fine u P N ok .short k)
+
+    clean-short : (k : ℕ) → viewOk u P N ≡ true → noneThere u P N k ≡ false
+        → length (storeList W (actionGroups u P N (cleanAction u P N k))) ≤ 3670
+    unfolding noneThere cleanEntries cleanNames
+    clean-short k ok e =
+        let o = or-false (leb N k) (not (isValid u k)) e in
+        by-bool (isDirectory u k)
+        (λ c. clean-list k 224 (rw (c, length-map) (folder-short k ok (leb-false N k (o .0)) (not-false _ (o .1)) c)))
+        (λ c. let r = clean-list k 128 (rw c (clean-file-length (fileOf u P N k))) in omega arith)
 
   recover-short : (u m : Mem) (P N : ℕ) → journalOk m N ≡ true → length (storeList W (actionGroups u P N (recoverAction m))) ≤ 14
   unfolding actionGroups recoverAction allPrepared allChanges commit commitOne both storeList
@@ -353,22 +409,25 @@ module _ (W : ℕ) where
 -- All calls.
 
 -- the most words that a call fills
-pub list-most : (c : Call) (P N W : ℕ) (m : Mem) → accepted m P N ≡ true → Passed (checks m P N c) → length (storeList W (groups m P N c)) ≤ mostWords c
-unfolding groups checks action actionChecks writeAction accepted
-list-most (create n) P N W m a p = create-short W (view m) P N root n
-list-most (link x y) P N W m a p = link-short W (view m) P N root x y
-list-most (unlink n) P N W m a p = unlink-short W (view m) P N root n
-list-most (rename x y) P N W m a p = rename-short W (view m) P N root x y
-list-most (write k o bs) P N W m a p = write-short W (view m) P N k o bs (ltb-false 4096 (length bs) (p .1 .0))
+pub list-most : (c : Call) (P N W : ℕ) (m : Mem) → accepted m P N ≡ true → Passed (checks m P N c)
+    → length (storeList W (groups m P N c)) ≤ mostWords c
+unfolding groups checks action actionChecks writeAction fileChecks cleanAction accepted
+list-most (create d n) P N W m a p = create-short W (view m) P N 0 d n
+list-most (createFolder d n) P N W m a p = create-short W (view m) P N 1 d n
+list-most (link d x e y) P N W m a p = link-short W (view m) P N d x e y
+list-most (unlink d n) P N W m a p = unlink-short W (view m) P N d n
+list-most (rename d x e y) P N W m a p = rename-short W (view m) P N d x e y
+list-most (write k o bs) P N W m a p = write-short W (view m) P N k o bs (ltb-false 4096 (length bs) (p .1 .1 .0))
 list-most (setSize k s) P N W m a p = size-short W (view m) P N k s
-list-most (clean k) P N W m a p = clean-short W (view m) P N k (search ands)
+list-most (clean k) P N W m a p = clean-short W (view m) P N k (search ands) (p .0)
 list-most recover P N W m a p = recover-short W (view m) m P N (search ands)
 
 pub most-fits : (c : Call) → mostWords c ≤ listWords
-most-fits (create n) = omega arith
-most-fits (link a b) = omega arith
-most-fits (unlink n) = omega arith
-most-fits (rename a b) = omega arith
+most-fits (create d n) = omega arith
+most-fits (createFolder d n) = omega arith
+most-fits (link d a e b) = omega arith
+most-fits (unlink d n) = omega arith
+most-fits (rename d a e b) = by-bool (eqb d e) (λ q. rw q (omega arith)) (λ q. rw q (omega arith))
 most-fits (write k o bs) = omega arith
 most-fits (setSize k s) = omega arith
 most-fits (clean k) = omega arith

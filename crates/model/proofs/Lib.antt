@@ -4,6 +4,7 @@ pub mod Tests
 pub mod Lists
 pub mod Words
 pub mod Power
+pub mod Tree
 pub mod Log
 pub mod Frame
 pub mod State
@@ -19,3 +20,4 @@ pub mod Counting
 pub mod Served
 pub mod Gaps
 pub mod DotNames
+pub mod FolderPromises

@@ -1,4 +1,4 @@
--- What a log's entries come to: the bytes of files, lists of names, and the file map.
+-- What a log's entries come to: the bytes of files, lists of names, folders, and the file map.
 pub mod Bytes
 pub mod Stretches
 pub mod Gaps
@@ -8,7 +8,8 @@ pub mod Write
 pub mod Resize
 pub mod Clean
 pub mod Names
-pub mod NamesFine
-pub mod NamesAfter
 pub mod NameEntries
+pub mod Folders
+pub mod FoldersOk
 pub mod Maps
+pub mod Totals

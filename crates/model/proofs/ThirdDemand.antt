@@ -1,5 +1,5 @@
--- The third demand: every history of calls and power cuts, from any accepted volume. Each call does what it owes (Calls), dead words are framed
--- (Frame), and the crash library (Crash) does the rest.
+-- The third demand: every history of calls and power cuts, from any accepted volume. Each call does what it owes (Calls), dead words are
+-- framed (Frame), and the crash library (Crash) does the rest.
 use Rattle.model.proofs.Prelude.{ℕ}
 use Rattle.model.specs.Words.{Mem}
 use Rattle.model.specs.FileMap.{Call}
@@ -9,13 +9,14 @@ use Rattle.model.proofs.Frame.Dead.{Dead, low, frame}
 use Rattle.model.proofs.Crash.Commit.{Ready}
 use Rattle.model.proofs.Crash.History as history
 use Rattle.model.proofs.Crash.History.{Duties, SafeCall, calls-safe}
-use Rattle.model.proofs.Calls.NameCalls.{create-done, link-done, unlink-done, rename-done}
+use Rattle.model.proofs.Calls.NameCalls.{create-done, create-folder-done, link-done, unlink-done, rename-done}
 use Rattle.model.proofs.Calls.Files.{write-done, size-done}
 use Rattle.model.proofs.Calls.Clean.{clean-done}
 
 duties : (P N : ℕ) (m : Mem) → Ready P N m → Duties P N m
 duties P N m r = record {
   create-duty = create-done P N m r;
+  create-folder-duty = create-folder-done P N m r;
   link-duty = link-done P N m r;
   unlink-duty = unlink-done P N m r;
   rename-duty = rename-done P N m r;

@@ -1,26 +1,34 @@
 -- Document 01, "An accepted volume". P, N and the journal's own words are read as they stand, all else from the view.
 use Prim.Native.Nat.{ℕ, _+_, _-_, _*_, _/_, _%_}
 use mathlib.Core.Bool.{Bool, cond, _&&_, _||_, not}
-use mathlib.Core.List.{List}
+use mathlib.Core.List.{List, []}
 use lib.ListN.{length}
 use lib.Dec.{leb, ltb, eqb}
-use Rattle.model.specs.Lists.{bit, allBelow, sumBelow, all, has, count, isSome}
+use Rattle.model.specs.Lists.{bit, allBelow, sumBelow, all, count, isSome}
 use Rattle.model.specs.Stretches.{stretchesOf}
 use Rattle.model.specs.Words.{Mem}
-use Rattle.model.specs.Layout.{validWord, inPages, root, isDirectory, filePages, mostNames}
+use Rattle.model.specs.Layout.{validWord, typeWord, inPages, root, isDirectory, filePages, mostNames}
 use Rattle.model.specs.Journal.{journalOk, view}
 use Rattle.model.specs.Entry.{fileEntryOk, nameEntryOk}
 use Rattle.model.specs.Log.{logPages, pages, entries}
 use Rattle.model.specs.State.{File, fileOf, fileByte, Names, namesOf, inodes}
+use Rattle.model.specs.Tree.{Folders, nameCount, isReached}
 
 -- Below, u is a view.
 
 abbrev pub isValid : Mem → ℕ → Bool
 isValid u k = eqb (u (validWord k)) 1
 
--- a valid inode other than the directory
+-- a valid file, a valid folder
 abbrev pub isFile : Mem → ℕ → Bool
 isFile u k = not (isDirectory u k) && isValid u k
+
+abbrev pub isFolder : Mem → ℕ → Bool
+isFolder u k = isDirectory u k && isValid u k
+
+-- the names of each valid folder; of what is none, no names
+unfoldable pub foldersOf : Mem → ℕ → ℕ → Folders
+foldersOf u P N d = cond (ltb d N && isFolder u d) (namesOf u P N d) []
 
 -- how often page p, not 0, is a data page of a file
 unfoldable pub mappedTo : File → ℕ → ℕ
@@ -51,21 +59,30 @@ gaps u P N = stretchesOf (free u P N) P 0
 
 -- "valid words [are 0 or 1], inode 0 [is valid]"
 unfoldable pub validOk : Mem → ℕ → Bool
-validOk u k = cond (isDirectory u k) (isValid u k) (leb (u (validWord k)) 1)
+validOk u k = cond (eqb k root) (isValid u k) (leb (u (validWord k)) 1)
+
+-- Document 02, order 6: "A valid inode's type other than 0 or 1, inode 0's apart, makes a volume damaged."
+unfoldable pub typeOk : Mem → ℕ → Bool
+typeOk u k = eqb k root || leb (u (typeWord k)) 1
 
 -- "tails [..] are as said above"; "Every log walk ends, inside the log and data pages."
 -- "entry kinds are as said above, and the bytes after a name are 0", and the limits of sizes, writes, names and added inodes, entry by
--- entry
+-- entry. "A folder's log is like the directory's".
 unfoldable pub logOk : Mem → ℕ → ℕ → ℕ → Bool
 logOk u P N k =
     isSome (logPages u P N k)
     && cond (isDirectory u k) (all (nameEntryOk N) (entries u P N k)) (all (fileEntryOk P N) (entries u P N k))
 
--- "In the end at most 224 names stand, each names a valid file, and each valid file has a name."
-unfoldable pub namesOk : Mem → ℕ → Names → Bool
-namesOk u N ns =
-    leb (length ns) mostNames && all (isValid u) (inodes ns)
-    && allBelow N (λ k. not (isFile u k) || has k (inodes ns))
+-- "In the end at most 224 names stand, each names a valid file": of each folder, "with its own 224 names", and a valid file or folder
+unfoldable pub folderOk : Mem → Names → Bool
+folderOk u ns = leb (length ns) mostNames && all (isValid u) (inodes ns)
+
+-- "and each valid file has a name", in some folder; "Every valid folder but inode 0 has exactly one name and is reached from inode 0; a
+-- volume that breaks this is damaged."
+unfoldable pub namedOk : Mem → ℕ → Folders → ℕ → Bool
+namedOk u N F k =
+    not (isValid u k) || eqb k root
+    || cond (isDirectory u k) (eqb (nameCount N F k) 1 && isReached N F k) (not (eqb (nameCount N F k) 0))
 
 -- "No page serves twice". Page 0 is none of them.
 unfoldable pub servesOnce : Mem → ℕ → ℕ → ℕ → Bool
@@ -78,13 +95,15 @@ endOk u f =
     && (eqb (f .size % 512) 0 || eqb (f .page (f .size / 512)) 0
     || allBelow (512 - f .size % 512) (λ j. eqb (fileByte u f (f .size + j)) 0))
 
--- What is asked of inode k. "Heads and tails of invalid inodes are not read."
+-- What is asked of inode k. "Heads and tails of invalid inodes are not read", and their types neither.
 unfoldable pub inodeOk : Mem → ℕ → ℕ → ℕ → Bool
 inodeOk u P N k =
-    validOk u k && (not (isValid u k) || (logOk u P N k && (isDirectory u k || endOk u (fileOf u P N k))))
+    validOk u k && (not (isValid u k) || (typeOk u k && logOk u P N k && (isDirectory u k || endOk u (fileOf u P N k))))
 
 unfoldable pub viewOk : Mem → ℕ → ℕ → Bool
-viewOk u P N = allBelow N (inodeOk u P N) && namesOk u N (namesOf u P N root) && allBelow P (servesOnce u P N)
+viewOk u P N =
+    allBelow N (inodeOk u P N) && allBelow N (λ d. folderOk u (foldersOf u P N d)) && allBelow N (namedOk u N (foldersOf u P N))
+    && allBelow P (servesOnce u P N)
 
 -- An accepted volume, from its words m and its sizes P and N, which are within their limits.
 unfoldable pub accepted : Mem → ℕ → ℕ → Bool

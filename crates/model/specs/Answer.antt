@@ -59,6 +59,15 @@ tooManyGaps = 14
 abbrev pub lastPage : ℕ
 lastPage = 15
 
+abbrev pub wrongType : ℕ
+wrongType = 16
+
+abbrev pub notEmpty : ℕ
+notEmpty = 17
+
+abbrev pub intoItself : ℕ
+intoItself = 18
+
 -- Conditions with their numbers, in the order in which they are checked: ascending, but "where an order names a number's place among the
 -- checks, that place decides and not the number."
 abbrev pub Checks : Type 0

@@ -1,4 +1,4 @@
--- What the changing calls fill, and when they refuse with 5 to 12 and 15. Document 01, "The store list" and "The calls".
+-- What the changing calls fill, and when they refuse with 5 to 12 and 15 to 18. Document 01, "The store list" and "The calls".
 -- Everything is read from the view u of a volume of P pages and N inodes.
 use Prim.Native.Nat.{ℕ, _+_, _-_, _*_, _/_, _%_, max}
 use mathlib.Core.Bool.{Bool, true, false, cond, _&&_, _||_, not}
@@ -6,19 +6,21 @@ use mathlib.Core.List.{List, [], _∷_, _++_, map}
 use mathlib.Core.Option.{Option, none, some}
 use lib.ListN.{length, getD}
 use lib.Dec.{leb, ltb, eqb}
-use Rattle.model.specs.Lists.{bit, allBelow, valuesFrom, lowest, lowestFew, has, count, indexOf, isSome, orElse}
+use Rattle.model.specs.Lists.{bit, allBelow, valuesFrom, lowest, lowestFew, has, indexOf, isSome, orElse}
 use Rattle.model.specs.Stretches.{Stretch, stretches}
 use Rattle.model.specs.Words.{Mem, leFrom}
-use Rattle.model.specs.Layout.{validWord, headWord, tailWord, root, isDirectory, pageEntries, filePages, fileBytes}
+use Rattle.model.specs.Layout.{validWord, headWord, tailWord, typeWord, root, isDirectory, pageEntries, filePages, fileBytes}
 use Rattle.model.specs.Layout.{writeBytes, mostNames}
 use Rattle.model.specs.Journal.{dequeueWord, enqueueWord, positionCount, targetWord, oldWord, nextPosition, openTargets, isOpen, view}
 use Rattle.model.specs.Entry.{nameOk, newNameOk, writeWords, sizeWords, addWords, removeWords}
 use Rattle.model.specs.Log.{tailSlots}
-use Rattle.model.specs.State.{File, fileOf, fileByte, Names, namesOf, inodeOf, inodes}
-use Rattle.model.specs.Accept.{isValid, isFile, free, freeCount}
-use Rattle.model.specs.FileMap.{Call, create, link, unlink, rename, write, setSize, clean, recover}
+use Rattle.model.specs.State.{File, fileOf, fileByte, Names, namesOf, inodeOf}
+use Rattle.model.specs.Tree.{Folders, nameCount, isBeneath}
+use Rattle.model.specs.Accept.{isValid, foldersOf, free, freeCount}
+use Rattle.model.specs.FileMap.{Call, create, createFolder, link, unlink, rename, write, setSize, clean, recover}
 use Rattle.model.specs.Stores.{Stores, oneWord, noWords, firstOf, both, onlyIf}
 use Rattle.model.specs.Answer.{Checks, badName, notThere, taken, longWrite, pastTheEnd, noInode, directoryFull, noSpace, lastPage}
+use Rattle.model.specs.Answer.{wrongType, notEmpty, intoItself}
 
 -- Writing a log.
 
@@ -227,60 +229,79 @@ module _ (u : Mem) (P N : ℕ) where
 abbrev pub pagesCovered : ℕ → ℕ → ℕ
 pagesCovered o e = (e - 1) / 512 + 1 - o / 512
 
--- Below, d is the inode of the directory in which names are read and changed.
+-- Below, d and e are inodes of folders in which names are read and changed.
 module _ (u : Mem) (P N : ℕ) where
   -- Names.
 
-  -- 6, 7, 11
-  abbrev pub stands : ℕ → List ℕ → Bool
-  stands d n = not (eqb (inodeOf (namesOf u P N d) n) 0)
+  abbrev pub folders : Folders
+  folders = foldersOf u P N
 
+  -- 6, of a call that takes a folder, or any inode: "inode invalid or out of range". "Where a folder is taken, 6 no longer covers inode 0."
+  unfoldable pub noneThere : ℕ → Bool
+  noneThere k = leb N k || not (isValid u k)
+
+  -- the inode that name n leads to in folder d; 0 where it is absent, and where d is no folder
+  unfoldable pub leadsTo : ℕ → List ℕ → ℕ
+  leadsTo d n = inodeOf (folders d) n
+
+  -- 7: whether name n stands in folder d; "In a file given as folder, no name counts as [..] taken"
+  unfoldable pub stands : ℕ → List ℕ → Bool
+  stands d n = not (eqb (leadsTo d n) 0)
+
+  -- 6: "In a file given as folder, no name counts as absent"
+  unfoldable pub isAbsent : ℕ → List ℕ → Bool
+  isAbsent d n = isDirectory u d && not (stands d n)
+
+  -- 11: "a 225th name"
   unfoldable pub isFull : ℕ → Bool
-  isFull d = leb mostNames (length (namesOf u P N d))
+  isFull d = leb mostNames (length (folders d))
 
   -- "Unlinking the last name, and a rename that takes away a file's last name, journal [..] that valid word": 0, where name n is its
-  -- inode's only name
+  -- inode's only name in all folders
   unfoldable pub release : ℕ → List ℕ → List Change
-  release d n =
-      let j = inodeOf (namesOf u P N d) n in
-      cond (stands d n && eqb (count j (inodes (namesOf u P N d))) 1) ((validWord j, 0) ∷ []) []
+  release d n = let j = leadsTo d n in cond (stands d n && eqb (nameCount N folders j) 1) ((validWord j, 0) ∷ []) []
 
   -- create: "the lowest invalid inode", from 1 on
   unfoldable pub invalidInode : Option ℕ
   invalidInode = lowest (λ k. not (isValid u k)) (N - 1) 1
 
   -- "Create journals the directory's tail, then the inode's valid word, and in its first group also stores 0 in the new inode's head and
-  -- tail."
-  unfoldable pub createAction : ℕ → List ℕ → Action
-  createAction d n =
+  -- tail." "Every create, of a file or a folder, stores the type in its first group": t. 16: "a file where a folder is wanted".
+  unfoldable pub createAction : ℕ → ℕ → List ℕ → Action
+  createAction t d n =
       let i = orElse invalidInode 0 in
       record {
-        always = (not (newNameOk n), badName) ∷ (stands d n, taken) ∷ (not (isSome invalidInode), noInode) ∷ (isFull d, directoryFull) ∷ [];
+        always = (not (newNameOk n), badName) ∷ (noneThere d, notThere) ∷ (stands d n, taken) ∷ (not (isDirectory u d), wrongType)
+            ∷ (not (isSome invalidInode), noInode) ∷ (isFull d, directoryFull) ∷ [];
         unchanged = false;
         changing = [];
         keeps = true;
         appends = entriesOnly false d (addWords i n ∷ []) ∷ [];
-        further = both (oneWord (headWord i) 0) (oneWord (tailWord i) 0);
+        further = both (oneWord (headWord i) 0) (both (oneWord (tailWord i) 0) (oneWord (typeWord i) t));
         changes = (validWord i, 1) ∷ [];
       }
 
-  unfoldable pub linkAction : ℕ → List ℕ → List ℕ → Action
-  linkAction d a b =
+  -- 16: "a file where a folder is wanted, a link to a folder"
+  unfoldable pub linkAction : ℕ → List ℕ → ℕ → List ℕ → Action
+  linkAction d a e b =
       record {
-        always = (not (nameOk a && newNameOk b), badName) ∷ (not (stands d a), notThere) ∷ (stands d b, taken)
-            ∷ (isFull d, directoryFull) ∷ [];
+        always = (not (nameOk a && newNameOk b), badName) ∷ (noneThere d || noneThere e || isAbsent d a, notThere) ∷ (stands e b, taken)
+            ∷ (not (isDirectory u d) || not (isDirectory u e) || isDirectory u (leadsTo d a), wrongType)
+            ∷ (isFull e, directoryFull) ∷ [];
         unchanged = false;
         changing = [];
         keeps = true;
-        appends = entriesOnly false d (addWords (inodeOf (namesOf u P N d) a) b ∷ []) ∷ [];
+        appends = entriesOnly false e (addWords (leadsTo d a) b ∷ []) ∷ [];
         further = noWords;
         changes = [];
       }
 
+  -- "unlinking a folder that has names gets 17, directly after 16"
   unfoldable pub unlinkAction : ℕ → List ℕ → Action
   unlinkAction d n =
       record {
-        always = (not (nameOk n), badName) ∷ (not (stands d n), notThere) ∷ [];
+        always = (not (nameOk n), badName) ∷ (noneThere d || isAbsent d n, notThere) ∷ (not (isDirectory u d), wrongType)
+            ∷ (ltb 0 (length (folders (leadsTo d n))), notEmpty) ∷ [];
         unchanged = false;
         changing = [];
         keeps = false;
@@ -289,27 +310,49 @@ module _ (u : Mem) (P N : ℕ) where
         changes = release d n;
       }
 
-  -- "Rename appends remove, then add. If both names lead to one inode, nothing changes."
-  unfoldable pub sameInode : ℕ → List ℕ → List ℕ → Bool
-  sameInode d a b = eqb (inodeOf (namesOf u P N d) a) (inodeOf (namesOf u P N d) b)
+  -- "Names leading to one inode still change nothing, before the new checks."
+  unfoldable pub sameInode : ℕ → List ℕ → ℕ → List ℕ → Bool
+  sameInode d a e b = isDirectory u d && isDirectory u e && eqb (leadsTo d a) (leadsTo e b)
 
-  unfoldable pub renameAction : ℕ → List ℕ → List ℕ → Action
-  renameAction d a b =
+  -- "Rename appends remove, then add." "Moving a name between folders takes log pages [..] and journals the two tails, the source folder
+  -- first in both": the remove goes to the source folder's log, the add to the other's.
+  unfoldable pub renameAppends : ℕ → List ℕ → ℕ → List ℕ → List Append
+  renameAppends d a e b =
+      let add = addWords (leadsTo d a) b in
+      cond (eqb d e) (entriesOnly false d (removeWords a ∷ add ∷ []) ∷ [])
+      (entriesOnly false d (removeWords a ∷ []) ∷ entriesOnly false e (add ∷ []) ∷ [])
+
+  -- 16: "a rename onto an existing folder or of a folder onto any standing name"
+  abbrev pub replacesFolder : ℕ → List ℕ → ℕ → List ℕ → Bool
+  replacesFolder d a e b = stands e b && (isDirectory u (leadsTo d a) || isDirectory u (leadsTo e b))
+
+  -- 18: "a folder's move into or beneath itself"
+  abbrev pub entersItself : ℕ → List ℕ → ℕ → Bool
+  entersItself d a e = isDirectory u (leadsTo d a) && isBeneath N folders (leadsTo d a) e
+
+  -- 11: "A move that would give a folder a 225th name gets 11."
+  abbrev pub fillsUp : ℕ → ℕ → List ℕ → Bool
+  fillsUp d e b = not (eqb d e) && not (stands e b) && isFull e
+
+  -- "[..] and then the valid word of a file that loses its last name."
+  unfoldable pub renameAction : ℕ → List ℕ → ℕ → List ℕ → Action
+  renameAction d a e b =
       record {
-        always = (not (nameOk a && newNameOk b), badName) ∷ (not (stands d a), notThere) ∷ [];
-        unchanged = sameInode d a b;
-        changing = [];
+        always = (not (nameOk a && newNameOk b), badName) ∷ (noneThere d || noneThere e || isAbsent d a, notThere) ∷ [];
+        unchanged = sameInode d a e b;
+        changing = (not (isDirectory u d) || not (isDirectory u e) || replacesFolder d a e b, wrongType)
+            ∷ (entersItself d a e, intoItself) ∷ (fillsUp d e b, directoryFull) ∷ [];
         keeps = false;
-        appends = entriesOnly false d (removeWords a ∷ addWords (inodeOf (namesOf u P N d) a) b ∷ []) ∷ [];
+        appends = renameAppends d a e b;
         further = noWords;
-        changes = release d b;
+        changes = release e b;
       }
 
   -- Files.
 
-  -- 6, of a call that takes a file's inode: "inode invalid or out of range", "inode 0"
-  unfoldable pub noFile : ℕ → Bool
-  noFile k = leb N k || not (isFile u k)
+  -- 6 and 16, of a call that takes a file's inode: "inode invalid or out of range", "inode 0"; "A folder given where a file is wanted"
+  unfoldable pub fileChecks : ℕ → Checks
+  fileChecks k = (noneThere k || eqb k root, notThere) ∷ (isDirectory u k, wrongType) ∷ []
 
   -- "The fresh pages cover the written part; their other bytes are the file's, or zeros."
   unfoldable pub writtenByte : ℕ → ℕ → List ℕ → ℕ → ℕ
@@ -333,7 +376,7 @@ module _ (u : Mem) (P N : ℕ) where
   unfoldable pub writeAction : ℕ → ℕ → List ℕ → Action
   writeAction k o bs =
       record {
-        always = (noFile k, notThere) ∷ (ltb writeBytes (length bs), longWrite) ∷ (ltb fileBytes (o + length bs), pastTheEnd) ∷ [];
+        always = fileChecks k ++ (ltb writeBytes (length bs), longWrite) ∷ (ltb fileBytes (o + length bs), pastTheEnd) ∷ [];
         unchanged = eqb (length bs) 0;
         changing = [];
         keeps = true;
@@ -369,7 +412,7 @@ module _ (u : Mem) (P N : ℕ) where
   unfoldable pub sizeAction : ℕ → ℕ → Action
   sizeAction k s =
       record {
-        always = (noFile k, notThere) ∷ (ltb fileBytes s, pastTheEnd) ∷ [];
+        always = fileChecks k ++ (ltb fileBytes s, pastTheEnd) ∷ [];
         unchanged = eqb s (fileOf u P N k .size);
         changing = [];
         keeps = true;
@@ -387,7 +430,7 @@ cleanFile f =
     let ws = stretchEntries (f .size) (stretches (f .page) filePages 0) in
     cond (eqb (length ws) 0) (cond (eqb (f .size) 0) [] (sizeWords (f .size) ∷ [])) ws
 
--- "The directory gets one add for each name, in list order."
+-- "The directory gets one add for each name, in list order", and a folder as the directory does.
 unfoldable pub cleanNames : Names → List (List ℕ)
 cleanNames ns = map (λ (p : List ℕ × ℕ). addWords (p .1) (p .0)) ns
 
@@ -395,11 +438,11 @@ module _ (u : Mem) (P N : ℕ) where
   unfoldable pub cleanEntries : ℕ → List (List ℕ)
   cleanEntries k = cond (isDirectory u k) (cleanNames (namesOf u P N k)) (cleanFile (fileOf u P N k))
 
-  -- 6 (inode 0 is allowed). "A log whose tail is 0 already changes nothing."
+  -- 6 (inode 0 and folders are allowed). "A log whose tail is 0 already changes nothing."
   unfoldable pub cleanAction : ℕ → Action
   cleanAction k =
       record {
-        always = (leb N k || not (isValid u k), notThere) ∷ [];
+        always = (noneThere u P N k, notThere) ∷ [];
         unchanged = eqb (u (tailWord k)) 0;
         changing = [];
         keeps = false;
@@ -427,12 +470,13 @@ recoverAction m =
       changes = (dequeueWord, m enqueueWord) ∷ [];
     }
 
--- All eight, from the words m of a volume. The directory is inode 0.
+-- All nine, from the words m of a volume. "its type, 0 file and 1 folder"
 unfoldable pub action : Mem → ℕ → ℕ → Call → Action
-action m P N (create n) = createAction (view m) P N root n
-action m P N (link a b) = linkAction (view m) P N root a b
-action m P N (unlink n) = unlinkAction (view m) P N root n
-action m P N (rename a b) = renameAction (view m) P N root a b
+action m P N (create d n) = createAction (view m) P N 0 d n
+action m P N (createFolder d n) = createAction (view m) P N 1 d n
+action m P N (link d a e b) = linkAction (view m) P N d a e b
+action m P N (unlink d n) = unlinkAction (view m) P N d n
+action m P N (rename d a e b) = renameAction (view m) P N d a e b
 action m P N (write k o bs) = writeAction (view m) P N k o bs
 action m P N (setSize k s) = sizeAction (view m) P N k s
 action m P N (clean k) = cleanAction (view m) P N k

@@ -7,7 +7,8 @@ use mathlib.Core.List.{List, [], _∷_}
 use lib.ListN.{length, getD}
 use Rattle.model.specs.Words.{word}
 use Rattle.model.specs.Journal.{isOpen, view}
-use Rattle.model.specs.FileMap.{FileMap, mapOf, mapAfter, Call, create, link, unlink, rename, write, setSize, clean, recover}
+use Rattle.model.specs.FileMap.{FileMap, mapOf, mapAfter, Call, create, createFolder, link, unlink, rename, write, setSize, clean}
+use Rattle.model.specs.FileMap.{recover}
 use Rattle.model.specs.Power.{Power, held, cut, leaves}
 use Rattle.model.specs.Answer.{Answer, refused, done}
 use Rattle.model.specs.Public.{isAccepted, fills}
@@ -18,10 +19,11 @@ Bytes l = (i : ℕ) → getD l i 0 < 256
 
 -- the names and the data of a call are bytes; its numbers are any numbers
 abbrev pub CallBytes : Call → Type 0
-CallBytes (create n) = Bytes n
-CallBytes (link a b) = Bytes a × Bytes b
-CallBytes (unlink n) = Bytes n
-CallBytes (rename a b) = Bytes a × Bytes b
+CallBytes (create d n) = Bytes n
+CallBytes (createFolder d n) = Bytes n
+CallBytes (link d a e b) = Bytes a × Bytes b
+CallBytes (unlink d n) = Bytes n
+CallBytes (rename d a e b) = Bytes a × Bytes b
 CallBytes (write k o bs) = Bytes bs
 CallBytes (setSize k s) = Unit {0}
 CallBytes (clean k) = Unit {0}
@@ -78,7 +80,8 @@ Kept size v (e ∷ es) = Step v (volumeAfter size v e) e × Kept size (volumeAft
 
 -- The claim. "For every list of create, link, unlink, rename, write, set size, clean and recover calls, refused and cut ones included, from
 -- an accepted volume with its journal closed, wherever each cut falls and whichever unfenced stores it keeps". `size` is the size of the
--- pieces that land whole: the demand is `ThirdDemand 8`.
+-- pieces that land whole: the demand is `ThirdDemand 8`. A create of a folder is a create: "the cut rule and the POSIX rule, narrowed by
+-- this order too, speak of that larger map" (document 02, order 6).
 abbrev pub ThirdDemand : ℕ → Type 0
 ThirdDemand size =
     (v : List ℕ) → Bytes v → isAccepted v ≡ true → isOpen (word v) ≡ false → (es : History) → HistoryBytes es → Kept size v es

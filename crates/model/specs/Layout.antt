@@ -1,7 +1,7 @@
 -- Document 01, "Volume": the sizes, and where things stand.
 -- P is the page count and N the inode count throughout.
 use Prim.Native.Nat.{ℕ, _+_, _*_, _/_, _%_}
-use mathlib.Core.Bool.{Bool, _&&_}
+use mathlib.Core.Bool.{Bool, _&&_, _||_}
 use lib.Dec.{leb, ltb, eqb}
 use Rattle.model.specs.Words.{Mem}
 
@@ -43,13 +43,17 @@ headWord k = 65 + 8 * k
 abbrev pub tailWord : ℕ → ℕ
 tailWord k = 66 + 8 * k
 
--- "Inode 0 is the directory [..]. The others are files."
+-- Document 02, order 6: "The fourth word of an inode becomes its type, 0 file and 1 folder."
+abbrev pub typeWord : ℕ → ℕ
+typeWord k = 67 + 8 * k
+
+-- "Inode 0 is the directory", the folder from which all others are reached
 abbrev pub root : ℕ
 root = 0
 
--- asked of the view u
+-- Whether inode k, where it is valid, is a folder, asked of the view u. "Inode 0 is a folder whatever that word holds."
 abbrev pub isDirectory : Mem → ℕ → Bool
-isDirectory u k = eqb k root
+isDirectory u k = eqb k root || eqb (u (typeWord k)) 1
 
 -- "Pages T+1 to P−1 hold logs and data."
 unfoldable pub inPages : ℕ → ℕ → ℕ → Bool

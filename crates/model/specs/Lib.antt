@@ -7,6 +7,7 @@ pub mod Journal
 pub mod Entry
 pub mod Log
 pub mod State
+pub mod Tree
 pub mod Accept
 pub mod FileMap
 pub mod Stores

@@ -7,10 +7,10 @@ use lib.Dec.{ltb}
 use Rattle.model.specs.Words.{Mem, word}
 use Rattle.model.specs.Layout.{root}
 use Rattle.model.specs.Journal.{view}
-use Rattle.model.specs.State.{fileOf, Names, namesOf}
-use Rattle.model.specs.Accept.{freeCount}
+use Rattle.model.specs.State.{Names}
+use Rattle.model.specs.Accept.{foldersOf, freeCount}
 use Rattle.model.specs.Answer.{Answer, refused, done, firstRefusal, noVolume}
-use Rattle.model.specs.Public.{closedChecks}
+use Rattle.model.specs.Public.{closedChecks, counts}
 
 -- Bytes of the text.
 abbrev pub space : ℕ
@@ -57,13 +57,14 @@ refusalLine n = refusedWord ++ space ∷ decimal n ++ newline ∷ []
 abbrev pub mostBytes : ℕ
 mostBytes = 65536
 
+-- Document 02, order 6: "The program lists inode 0's names; a folder's size there is its total."
 module _ (u : Mem) (P N : ℕ) where
   unfoldable pub nameLines : Names → List ℕ
   nameLines [] = []
-  nameLines (p ∷ ps) = nameLine (p .1) (fileOf u P N (p .1) .size) (p .0) ++ nameLines ps
+  nameLines (p ∷ ps) = nameLine (p .1) (counts u P N N (p .1)) (p .0) ++ nameLines ps
 
   unfoldable pub textOf : List ℕ
-  textOf = firstLine (length (namesOf u P N root)) (freeCount u P N) ++ nameLines (namesOf u P N root)
+  textOf = firstLine (length (foldersOf u P N root)) (freeCount u P N) ++ nameLines (foldersOf u P N root)
 
 abbrev pub textOr : Answer (List ℕ) → List ℕ
 textOr (refused n) = refusalLine n

@@ -1,5 +1,6 @@
 -- What else is promised: corollaries of the third demand, the shape of every store list, format, the reading calls in terms of the file
--- map, the calls that are served, the gaps, the page kept back, and the dot names.
+-- map, the total of a folder, the calls that are served, the gaps, the page kept back, the dot names, the place of each folder and the
+-- move.
 use Prim.Native.Nat.{ℕ, _+_, _-_, _*_, _^_, _≤_, _<_}
 use mathlib.Core.Path.{_≡_}
 use mathlib.Core.Logic.{_⊎_}
@@ -14,17 +15,17 @@ use Rattle.model.specs.Layout.{root, tailWord, fileBytes, writeBytes, mo
 use Rattle.model.specs.Journal.{isOpen, view}
 use Rattle.model.specs.Entry.{nameOk, isDotName, newNameOk, padded}
 use Rattle.model.specs.Log.{tailSlots}
-use Rattle.model.specs.State.{inodeOf}
+use Rattle.model.specs.State.{Names, inodeOf, inodes}
+use Rattle.model.specs.Tree.{nameCount, parentOf, isReached, isBeneath, sumOver, folderTotal}
 use Rattle.model.specs.Accept.{free, freeCount, gaps}
-use Rattle.model.specs.FileMap.{FileMap, bytesIn, newInode, mapAfter, Call, create, link, unlink, rename, write, setSize, clean}
-use Rattle.model.specs.FileMap.{recover}
+use Rattle.model.specs.FileMap.{FileMap, namesIn, bytesIn, newInode, mapAfter, Call, create, createFolder, link, unlink, rename}
+use Rattle.model.specs.FileMap.{write, setSize, clean, recover}
 use Rattle.model.specs.Stores.{Stores}
 use Rattle.model.specs.Power.{Power, held, cut, group, leaves}
-use Rattle.model.specs.Answer.{Answer, refused, done, notThere, tooManyGaps, filledFrom}
+use Rattle.model.specs.Answer.{Answer, refused, done, notThere, tooManyGaps, wrongType, filledFrom}
 use Rattle.model.specs.Calls.{pagesFor, tailPages, lowestPages, pagesCovered, cutsPage, cleanEntries, groups}
 use Rattle.model.specs.Public.{isAccepted, fills, callAnswer, formatAnswer, formatVolume, pairsOk, endsInFence, carryOut, findAnswer}
-use Rattle.model.specs.Public.{sizeAnswer}
-use Rattle.model.specs.Public.{readAnswer, readBuffer, kthNameAnswer, kthNameBuffer, freeAnswer, gapsAnswer}
+use Rattle.model.specs.Public.{sizeAnswer, readAnswer, readBuffer, kthNameAnswer, kthNameBuffer, totalAnswer, freeAnswer, gapsAnswer}
 use Rattle.model.specs.Claim.{Bytes, CallBytes, Event, History, HistoryBytes, answerTo, volumeAfter, mapIn}
 
 -- Below, pieces of 8 bytes land whole.
@@ -90,10 +91,11 @@ storable (i ∷ x ∷ r) = ltb 2 i && ltb x (2 ^ 64) && storable r
 
 -- the longest list of each call, in words: a call that is not refused with 1 has room for it
 abbrev pub mostWords : Call → ℕ
-mostWords (create n) = 46
-mostWords (link a b) = 24
-mostWords (unlink n) = 42
-mostWords (rename a b) = 58
+mostWords (create d n) = 48
+mostWords (createFolder d n) = 48
+mostWords (link d a e b) = 24
+mostWords (unlink d n) = 42
+mostWords (rename d a e b) = cond (eqb d e) 58 66
 mostWords (write k o bs) = 1306
 mostWords (setSize k s) = 168
 mostWords (clean k) = 3670
@@ -121,14 +123,14 @@ ListsFine =
     (v : List ℕ) → Bytes v → isAccepted v ≡ true → (c : Call) → CallBytes c → (list ws : List ℕ)
     → fills (length v) (word v) (length list) c ≡ done ws → ListFine c v ws list
 
--- Format: an accepted volume with its journal closed, no names and P − T − 1 free pages, whatever the bytes before.
+-- Format: an accepted volume with its journal closed, no folder but inode 0, no names and P − T − 1 free pages, whatever the bytes before.
 pub record Formatted (v : List ℕ) (P N : ℕ) : Type 0 where
   pub is-done : formatAnswer v P N ≡ done (record {})
   pub is-accepted : isAccepted (formatVolume v P N) ≡ true
   pub is-closed : isOpen (word (formatVolume v P N)) ≡ false
   pub pages : word (formatVolume v P N) 0 ≡ P
   pub inodes : word (formatVolume v P N) 1 ≡ N
-  pub no-names : mapIn (formatVolume v P N) .names ≡ []
+  pub no-names : (k : ℕ) → mapIn (formatVolume v P N) .folders k ≡ cond (eqb k root) (some []) none
   pub no-files : (k : ℕ) → mapIn (formatVolume v P N) .files k ≡ none
   pub free : freeAnswer (formatVolume v P N) ≡ done (P - tablePages N - 1)
 
@@ -142,21 +144,54 @@ abbrev pub ifThere : {A B : Type 0} → Option A → (A → B) → Answer B
 ifThere none f = refused notThere
 ifThere (some a) f = done (f a)
 
--- the k-th name of a map
-abbrev pub kthOf : FileMap → ℕ → Option (List ℕ)
-kthOf M k = cond (ltb k (length (M .names))) (some (getD (M .names) k ([], 0) .0)) none
+-- what f says of a file, from what the map has of an inode as folder and as file: 16 where it is a folder, 6 where it is neither
+abbrev pub ofFile : {B : Type 0} → Option Names → Option (List ℕ) → (List ℕ → Answer B) → Answer B
+ofFile o (some bs) f = f bs
+ofFile none none f = refused notThere
+ofFile (some ns) none f = refused wrongType
+
+-- what f says of a folder: 16 where it is a file, 6 where it is neither
+abbrev pub ofFolder : {B : Type 0} → Option Names → Option (List ℕ) → (Names → Answer B) → Answer B
+ofFolder (some ns) o f = f ns
+ofFolder none none f = refused notThere
+ofFolder none (some bs) f = refused wrongType
+
+-- inode k of the map M, where a file is wanted, and inode d, where a folder is: inode 0 as a file is 6
+abbrev pub inFile : {B : Type 0} → FileMap → ℕ → (List ℕ → B) → Answer B
+inFile M k f = ofFile (cond (eqb k root) none (M .folders k)) (M .files k) (λ bs. done (f bs))
+
+abbrev pub inFolder : {B : Type 0} → FileMap → ℕ → (Names → Answer B) → Answer B
+inFolder M d f = ofFolder (M .folders d) (M .files d) f
+
+-- the inode that name n leads to, and the k-th name
+abbrev pub inodeIn : Names → List ℕ → Option ℕ
+inodeIn ns n = cond (eqb (inodeOf ns n) 0) none (some (inodeOf ns n))
+
+abbrev pub kthOf : Names → ℕ → Option (List ℕ)
+kthOf ns k = cond (ltb k (length ns)) (some (getD ns k ([], 0) .0)) none
+
+-- the bytes beneath folder d of the map M, all N inodes being unvisited
+unfoldable pub beneathIn : ℕ → FileMap → ℕ → ℕ
+beneathIn N M d = folderTotal (namesIn M) (λ k. isSome (M .folders k)) (λ k. length (bytesIn M k)) N d
 
 pub record ReadsMap (v : List ℕ) : Type 0 where
-  pub finds : (n : List ℕ) → nameOk n ≡ true
-      → findAnswer v n ≡ ifThere (cond (eqb (inodeOf (mapIn v .names) n) 0) none (some (inodeOf (mapIn v .names) n))) (λ i. i)
-  pub sizes : (k : ℕ) → sizeAnswer v k ≡ ifThere (mapIn v .files k) length
+  pub finds : (d : ℕ) (n : List ℕ) → nameOk n ≡ true
+      → findAnswer v d n ≡ inFolder (mapIn v) d (λ ns. ifThere (inodeIn ns n) (λ i. i))
+  pub sizes : (k : ℕ) → sizeAnswer v k ≡ inFile (mapIn v) k length
   pub reads : (k o : ℕ) (buffer : List ℕ) → readAnswer v k o buffer
-      ≡ ifThere (mapIn v .files k) (λ bs. length (take (length buffer) (drop o bs)))
+      ≡ inFile (mapIn v) k (λ bs. length (take (length buffer) (drop o bs)))
   pub fills-buffer : (k o : ℕ) (buffer : List ℕ)
-      → readBuffer v k o buffer ≡ filledFrom buffer (ifThere (mapIn v .files k) (λ bs. take (length buffer) (drop o bs)))
-  pub names : (k : ℕ) (buffer : List ℕ) → 32 ≤ length buffer → kthNameAnswer v k buffer ≡ ifThere (kthOf (mapIn v) k) length
-  pub names-buffer : (k : ℕ) (buffer : List ℕ) → 32 ≤ length buffer → kthNameBuffer v k buffer
-      ≡ filledFrom buffer (ifThere (kthOf (mapIn v) k) padded)
+      → readBuffer v k o buffer ≡ filledFrom buffer (inFile (mapIn v) k (λ bs. take (length buffer) (drop o bs)))
+  pub names : (d k : ℕ) (buffer : List ℕ) → 32 ≤ length buffer
+      → kthNameAnswer v d k buffer ≡ inFolder (mapIn v) d (λ ns. ifThere (kthOf ns k) length)
+  pub names-buffer : (d k : ℕ) (buffer : List ℕ) → 32 ≤ length buffer
+      → kthNameBuffer v d k buffer ≡ filledFrom buffer (inFolder (mapIn v) d (λ ns. ifThere (kthOf ns k) padded))
+  pub totals : (d : ℕ) → totalAnswer v d ≡ inFolder (mapIn v) d (λ ns. done (beneathIn (word v 1) (mapIn v) d))
+  -- "the bytes beneath a folder are the sum over its names, where a file counts its size once for each name and a folder counts what lies
+  -- beneath it", with no count in it: the unvisited inodes are never spent
+  pub total-sum : (d : ℕ) → beneathIn (word v 1) (mapIn v) d
+      ≡ sumOver (λ k. cond (isSome (mapIn v .folders k)) (beneathIn (word v 1) (mapIn v) k) (length (bytesIn (mapIn v) k)))
+      (inodes (namesIn (mapIn v) d))
 
 abbrev pub ReadingDone : Type 0
 ReadingDone = (v : List ℕ) → isAccepted v ≡ true → isOpen (word v) ≡ false → ReadsMap v
@@ -178,9 +213,23 @@ unfoldable pub stretchCount : List ℕ → ℕ
 stretchCount [] = 0
 stretchCount (p ∷ ps) = bit (not (has (p + 1) ps)) + stretchCount ps
 
--- name n stands in the map M
-abbrev pub named : FileMap → List ℕ → Bool
-named M n = not (eqb (inodeOf (M .names) n) 0)
+-- Of the map M: name n stands in folder d; inode k is a folder; folder d has as many names as it may have.
+abbrev pub namedIn : FileMap → ℕ → List ℕ → Bool
+namedIn M d n = not (eqb (inodeOf (namesIn M d) n) 0)
+
+abbrev pub folderIn : FileMap → ℕ → Bool
+folderIn M k = isSome (M .folders k)
+
+abbrev pub fullIn : FileMap → ℕ → Bool
+fullIn M d = leb mostNames (length (namesIn M d))
+
+-- what document 02, order 6, allows of a rename that changes something: not "onto an existing folder or of a folder onto any standing
+-- name", not "into or beneath itself", and no "225th name"
+abbrev pub mayMove : ℕ → FileMap → ℕ → List ℕ → ℕ → List ℕ → Bool
+mayMove N M d a e b =
+    every (not (namedIn M e b && (folderIn M (inodeOf (namesIn M d) a) || folderIn M (inodeOf (namesIn M e) b)))
+    ∷ not (folderIn M (inodeOf (namesIn M d) a) && isBeneath N (namesIn M) (inodeOf (namesIn M d) a) e)
+    ∷ (eqb d e || namedIn M e b || not (fullIn M e)) ∷ [])
 
 module _ (v : List ℕ) where
   abbrev pub freePages : ℕ
@@ -206,6 +255,10 @@ module _ (v : List ℕ) where
   abbrev pub leavesPage : ℕ → ℕ → ℕ → Bool
   leavesPage k n c = eqb (pagesTaken k n c) 0 || ltb (pagesTaken k n c) freePages
 
+  -- a rename has room: in one folder for two more entries, and else for one more in each folder's log
+  abbrev pub hasMoveSpace : ℕ → ℕ → Bool
+  hasMoveSpace d e = leb (cond (eqb d e) (logPagesFor d 2) (logPagesFor d 1 + logPagesFor e 1)) freePages
+
   -- whether a page of file k is copied where its size becomes s
   abbrev pub copied : ℕ → ℕ → Bool
   copied k s = cutsPage (word v) (word v 0) (word v 1) k s
@@ -216,14 +269,20 @@ module _ (v : List ℕ) where
 
   -- each call with a lent list; M is the file map
   pub record Serves (list : List ℕ) (M : FileMap) : Type 0 where
-    pub creates : (n : List ℕ) → isServed (callAnswer v list (create n))
-        ≡ every (newNameOk n ∷ not (named M n) ∷ not (eqb (newInode (word v 1) M) 0) ∷ ltb (length (M .names)) mostNames
-        ∷ leavesPage root 1 0 ∷ [])
-    pub links : (a b : List ℕ) → isServed (callAnswer v list (link a b))
-        ≡ every ((nameOk a && newNameOk b) ∷ named M a ∷ not (named M b) ∷ ltb (length (M .names)) mostNames ∷ leavesPage root 1 0 ∷ [])
-    pub unlinks : (n : List ℕ) → isServed (callAnswer v list (unlink n)) ≡ every (nameOk n ∷ named M n ∷ hasSpace root 1 0 ∷ [])
-    pub renames : (a b : List ℕ) → isServed (callAnswer v list (rename a b))
-        ≡ every ((nameOk a && newNameOk b) ∷ named M a ∷ (eqb (inodeOf (M .names) a) (inodeOf (M .names) b) || hasSpace root 2 0) ∷ [])
+    pub creates : (d : ℕ) (n : List ℕ) → isServed (callAnswer v list (create d n))
+        ≡ every (newNameOk n ∷ folderIn M d ∷ not (namedIn M d n) ∷ not (eqb (newInode (word v 1) M) 0) ∷ not (fullIn M d)
+        ∷ leavesPage d 1 0 ∷ [])
+    pub creates-folder : (d : ℕ) (n : List ℕ) → isServed (callAnswer v list (createFolder d n))
+        ≡ every (newNameOk n ∷ folderIn M d ∷ not (namedIn M d n) ∷ not (eqb (newInode (word v 1) M) 0) ∷ not (fullIn M d)
+        ∷ leavesPage d 1 0 ∷ [])
+    pub links : (d : ℕ) (a : List ℕ) (e : ℕ) (b : List ℕ) → isServed (callAnswer v list (link d a e b))
+        ≡ every ((nameOk a && newNameOk b) ∷ namedIn M d a ∷ folderIn M e ∷ not (namedIn M e b)
+        ∷ not (folderIn M (inodeOf (namesIn M d) a)) ∷ not (fullIn M e) ∷ leavesPage e 1 0 ∷ [])
+    pub unlinks : (d : ℕ) (n : List ℕ) → isServed (callAnswer v list (unlink d n))
+        ≡ every (nameOk n ∷ namedIn M d n ∷ eqb (length (namesIn M (inodeOf (namesIn M d) n))) 0 ∷ hasSpace d 1 0 ∷ [])
+    pub renames : (d : ℕ) (a : List ℕ) (e : ℕ) (b : List ℕ) → isServed (callAnswer v list (rename d a e b))
+        ≡ every ((nameOk a && newNameOk b) ∷ namedIn M d a ∷ folderIn M e
+        ∷ (eqb (inodeOf (namesIn M d) a) (inodeOf (namesIn M e) b) || (mayMove (word v 1) M d a e b && hasMoveSpace d e)) ∷ [])
     pub writes : (k o : ℕ) (bs : List ℕ) → isServed (callAnswer v list (write k o bs))
         ≡ every (isSome (M .files k) ∷ leb (length bs) writeBytes ∷ leb (o + length bs) fileBytes
         ∷ (eqb (length bs) 0 || leavesPage k (writesFor (pagesCovered o (o + length bs))) (pagesCovered o (o + length bs))) ∷ [])
@@ -231,7 +290,7 @@ module _ (v : List ℕ) where
         ≡ every (isSome (M .files k) ∷ leb s fileBytes
         ∷ (eqb s (length (bytesIn M k)) || leavesPage k (1 + bit (copied k s)) (bit (copied k s))) ∷ [])
     pub cleans : (k : ℕ) → isServed (callAnswer v list (clean k))
-        ≡ every ((eqb k root || isSome (M .files k)) ∷ (eqb (word v (tailWord k)) 0 || leb (pagesAnew k) freePages) ∷ [])
+        ≡ every ((folderIn M k || isSome (M .files k)) ∷ (eqb (word v (tailWord k)) 0 || leb (pagesAnew k) freePages) ∷ [])
     pub recovers : isServed (callAnswer v list recover) ≡ true
 
 abbrev pub CallsServed : Type 0
@@ -273,11 +332,15 @@ GapsDone = (v : List ℕ) → isAccepted v ≡ true → GapsFine v (gaps (view (
 
 -- The page kept back (document 02, order 4): "On a full handheld unlink fails when the remove entry wants a log page."
 
--- what is done on the volume v with the map M, which has a free page: unlink of a standing name; rename of one, which takes one log page at
--- most
+-- what is done on the volume v with the map M, which has a free page: unlink of a standing name that leads to no folder with names; rename
+-- of one inside its folder, which takes one log page at most; and with two free pages also a move
 pub record Removes (v list : List ℕ) (M : FileMap) : Type 0 where
-  pub unlinks : (n : List ℕ) → named M n ≡ true → isServed (callAnswer v list (unlink n)) ≡ true
-  pub renames : (a b : List ℕ) → named M a ≡ true → newNameOk b ≡ true → isServed (callAnswer v list (rename a b)) ≡ true
+  pub unlinks : (d : ℕ) (n : List ℕ) → namedIn M d n ≡ true → namesIn M (inodeOf (namesIn M d) n) ≡ []
+      → isServed (callAnswer v list (unlink d n)) ≡ true
+  pub renames : (d : ℕ) (a b : List ℕ) → namedIn M d a ≡ true → newNameOk b ≡ true → mayMove (word v 1) M d a d b ≡ true
+      → isServed (callAnswer v list (rename d a d b)) ≡ true
+  pub moves : 2 ≤ freePages v → (d : ℕ) (a : List ℕ) (e : ℕ) (b : List ℕ) → namedIn M d a ≡ true → newNameOk b ≡ true
+      → folderIn M e ≡ true → mayMove (word v 1) M d a e b ≡ true → isServed (callAnswer v list (rename d a e b)) ≡ true
 
 abbrev pub RemovingServed : Type 0
 RemovingServed =
@@ -286,10 +349,11 @@ RemovingServed =
 
 -- "Unlink, rename and clean may take the last page."
 abbrev pub mayTakeLast : Call → Bool
-mayTakeLast (create n) = false
-mayTakeLast (link a b) = false
-mayTakeLast (unlink n) = true
-mayTakeLast (rename a b) = true
+mayTakeLast (create d n) = false
+mayTakeLast (createFolder d n) = false
+mayTakeLast (link d a e b) = false
+mayTakeLast (unlink d n) = true
+mayTakeLast (rename d a e b) = true
 mayTakeLast (write k o bs) = false
 mayTakeLast (setSize k s) = false
 mayTakeLast (clean k) = true
@@ -317,8 +381,36 @@ volumeLeft v [] = v
 volumeLeft v (e ∷ es) = volumeLeft (volumeAfter 8 v e) es
 
 -- "Create, link's new name and rename's new name shall no longer accept them.": after any history, its calls landed, cut or refused, no "."
--- and no ".." stands that did not stand before it
+-- and no ".." stands in a folder in which it did not stand before
 abbrev pub NoNewDotName : Type 0
 NoNewDotName =
-    (v : List ℕ) → Bytes v → isAccepted v ≡ true → (es : History) → HistoryBytes es → (n : List ℕ) → isDotName n ≡ true
-    → named (mapIn v) n ≡ false → named (mapIn (volumeLeft v es)) n ≡ false
+    (v : List ℕ) → Bytes v → isAccepted v ≡ true → (es : History) → HistoryBytes es → (d : ℕ) (n : List ℕ) → isDotName n ≡ true
+    → namedIn (mapIn v) d n ≡ false → namedIn (mapIn (volumeLeft v es)) d n ≡ false
+
+-- Folders (document 02, order 6).
+
+-- folder k of the map M, of N inodes: "has exactly one name and is reached from inode 0", and what holds that name is a folder
+pub record HasPlace (N : ℕ) (M : FileMap) (k : ℕ) : Type 0 where
+  pub one-name : nameCount N (namesIn M) k ≡ 1
+  pub from-root : isReached N (namesIn M) k ≡ true
+  pub parent-folder : folderIn M (parentOf N (namesIn M) k) ≡ true
+
+-- "Every valid folder but inode 0 has exactly one name and is reached from inode 0": after any history, its calls landed, cut or refused
+abbrev pub FoldersNamed : Type 0
+FoldersNamed =
+    (v : List ℕ) → Bytes v → isAccepted v ≡ true → (es : History) → HistoryBytes es → (k : ℕ)
+    → folderIn (mapIn (volumeLeft v es)) k ≡ true → (k ≡ root → ⊥) → HasPlace (word v 1) (mapIn (volumeLeft v es)) k
+
+-- whether name n of folder d leads to inode i, in the map M
+abbrev pub leadsIn : FileMap → ℕ → List ℕ → ℕ → Bool
+leadsIn M d n i = eqb (inodeOf (namesIn M d) n) i
+
+-- A move leaves one name, "wherever each cut falls": name a of folder d leads to inode i, and name b of folder e, the same folder or
+-- another, does not. After a rename of the first to the second, landed, cut or refused, exactly one of the two leads to i: never both,
+-- never none. Where both led to i, both stay: "Names leading to one inode still change nothing".
+abbrev pub MoveAtomic : Type 0
+MoveAtomic =
+    (v : List ℕ) → Bytes v → isAccepted v ≡ true → (d : ℕ) (a : List ℕ) (e : ℕ) (b : List ℕ) → CallBytes (rename d a e b)
+    → (l : ℕ) (p : Power) (i : ℕ) → namedIn (mapIn v) d a ≡ true → leadsIn (mapIn v) d a i ≡ true → leadsIn (mapIn v) e b i ≡ false
+    → (let M′ = mapIn (volumeAfter 8 v (record { call = rename d a e b; list = l; power = p })) in
+    leadsIn M′ d a i ≡ not (leadsIn M′ e b i))

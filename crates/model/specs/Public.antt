@@ -1,4 +1,4 @@
--- The sixteen calls, for all bytes and numbers: the answer, and each byte of lent memory afterwards.
+-- The eighteen calls, for all bytes and numbers: the answer, and each byte of lent memory afterwards.
 -- v are the bytes of the lent volume before the call. Format and carry out may change them; every other call leaves them.
 use Prim.Native.Nat.{ℕ, _+_, _-_, _*_, _/_, _%_, min}
 use mathlib.Core.Bool.{Bool, true, false, cond, _&&_, _||_, not}
@@ -7,16 +7,17 @@ use lib.ListN.{length, getD, take, drop, replicate}
 use lib.Dec.{leb, ltb, eqb}
 use Rattle.model.specs.Lists.{valuesFrom}
 use Rattle.model.specs.Words.{Mem, word, putWord}
-use Rattle.model.specs.Layout.{sizesOk, tablePages, root, nameBytes, listWords}
+use Rattle.model.specs.Layout.{sizesOk, tablePages, isDirectory, nameBytes, listWords}
 use Rattle.model.specs.Journal.{isOpen, view}
 use Rattle.model.specs.Entry.{nameOk, padded}
-use Rattle.model.specs.State.{fileOf, fileByte, namesOf, inodeOf}
-use Rattle.model.specs.Accept.{freeCount, gaps, accepted}
-use Rattle.model.specs.FileMap.{Call, create, link, unlink, rename, write, setSize, clean, recover}
+use Rattle.model.specs.State.{fileOf, fileByte}
+use Rattle.model.specs.Tree.{folderTotal, nameTotal}
+use Rattle.model.specs.Accept.{isFolder, foldersOf, freeCount, gaps, accepted}
+use Rattle.model.specs.FileMap.{Call, create, createFolder, link, unlink, rename, write, setSize, clean, recover}
 use Rattle.model.specs.Stores.{fence, storeList, carried}
 use Rattle.model.specs.Answer.{Answer, done, Nothing, Checks, firstRefusal, mapAnswer, filledFrom, replacedBy, shortMemory, noVolume}
-use Rattle.model.specs.Answer.{damaged, journalOpen, badName, notThere, badList, tooManyGaps}
-use Rattle.model.specs.Calls.{stands, noFile, checks, groups}
+use Rattle.model.specs.Answer.{damaged, journalOpen, badName, notThere, badList, tooManyGaps, wrongType}
+use Rattle.model.specs.Calls.{noneThere, leadsTo, isAbsent, fileChecks, checks, groups}
 
 -- A volume by its length and its words 0, 1 and 2. "The slice is exactly P × 512 bytes long."
 unfoldable pub isVolume : ℕ → Mem → Bool
@@ -33,20 +34,21 @@ volumeChecks len m = (not (isVolume len m), noVolume) ∷ (not (accepted m (m 0)
 unfoldable pub closedChecks : ℕ → Mem → Checks
 closedChecks len m = volumeChecks len m ++ (isOpen m, journalOpen) ∷ []
 
--- The eight calls that fill a store list.
+-- The nine calls that fill a store list.
 
 -- "any call but format, recover and carry out"
 abbrev pub needsClosed : Call → Bool
-needsClosed (create n) = true
-needsClosed (link a b) = true
-needsClosed (unlink n) = true
-needsClosed (rename a b) = true
+needsClosed (create d n) = true
+needsClosed (createFolder d n) = true
+needsClosed (link d a e b) = true
+needsClosed (unlink d n) = true
+needsClosed (rename d a e b) = true
 needsClosed (write k o bs) = true
 needsClosed (setSize k s) = true
 needsClosed (clean k) = true
 needsClosed recover = false
 
--- 1 to 12 and 15, for a list of l words
+-- 1 to 12 and 15 to 18, for a list of l words
 unfoldable pub callChecks : ℕ → Mem → ℕ → Call → Checks
 callChecks len m l c =
     (ltb l listWords, shortMemory) ∷ (volumeChecks len m ++ (needsClosed c && isOpen m, journalOpen) ∷ checks m (m 0) (m 1) c)
@@ -106,6 +108,14 @@ carryAnswer v list n = mapAnswer (λ w. record {}) (carryOut v list n)
 unfoldable pub carryVolume : List ℕ → List ℕ → ℕ → List ℕ
 carryVolume v list n = replacedBy v (carryOut v list n)
 
+-- The bytes beneath folder d, and what a name counts that leads to inode k, of the view u; n inodes are still unvisited.
+module _ (u : Mem) (P N : ℕ) where
+  unfoldable pub beneath : ℕ → ℕ → ℕ
+  beneath n d = folderTotal (foldersOf u P N) (isFolder u) (λ k. fileOf u P N k .size) n d
+
+  unfoldable pub counts : ℕ → ℕ → ℕ
+  counts n k = nameTotal (foldersOf u P N) (isFolder u) (λ k. fileOf u P N k .size) n k
+
 -- The reading calls, from the length and the words of the volume; everything is read from the view.
 module _ (len : ℕ) (m : Mem) where
   abbrev P : ℕ
@@ -114,28 +124,40 @@ module _ (len : ℕ) (m : Mem) where
   abbrev N : ℕ
   N = m 1
 
-  -- the inode that name n leads to in directory d
+  -- the inode that name n leads to in folder d
   unfoldable pub find : ℕ → List ℕ → Answer ℕ
   find d n =
-      firstRefusal (closedChecks len m ++ (not (nameOk n), badName) ∷ (not (stands (view m) P N d n), notThere) ∷ [])
-      (done (inodeOf (namesOf (view m) P N d) n))
+      let u = view m in
+      firstRefusal (closedChecks len m ++ (not (nameOk n), badName) ∷ (noneThere u P N d || isAbsent u P N d n, notThere)
+      ∷ (not (isDirectory u d), wrongType) ∷ [])
+      (done (leadsTo u P N d n))
 
   unfoldable pub size : ℕ → Answer ℕ
-  size k = firstRefusal (closedChecks len m ++ (noFile (view m) P N k, notThere) ∷ []) (done (fileOf (view m) P N k .size))
+  size k = firstRefusal (closedChecks len m ++ fileChecks (view m) P N k) (done (fileOf (view m) P N k .size))
 
   -- "as many bytes as the file has from the offset, up to the buffer [of b bytes]; none at or past the end"
   unfoldable pub read : ℕ → ℕ → ℕ → Answer (List ℕ)
   read k o b =
       let f = fileOf (view m) P N k in
-      firstRefusal (closedChecks len m ++ (noFile (view m) P N k, notThere) ∷ [])
+      firstRefusal (closedChecks len m ++ fileChecks (view m) P N k)
       (done (valuesFrom (fileByte (view m) f) o (min b (f .size - o))))
 
-  -- the k-th name of directory d, for a buffer of b bytes
+  -- the k-th name of folder d, for a buffer of b bytes; "In a file given as folder, [..] no k [counts] as too large"
   unfoldable pub kthName : ℕ → ℕ → ℕ → Answer (List ℕ)
   kthName d k b =
-      let ns = namesOf (view m) P N d in
-      firstRefusal ((ltb b nameBytes, shortMemory) ∷ (closedChecks len m ++ (leb (length ns) k, notThere) ∷ []))
+      let u = view m in
+      let ns = foldersOf u P N d in
+      firstRefusal ((ltb b nameBytes, shortMemory)
+      ∷ (closedChecks len m ++ (noneThere u P N d || (isDirectory u d && leb (length ns) k), notThere)
+      ∷ (not (isDirectory u d), wrongType) ∷ []))
       (done (getD ns k ([], 0) .0))
+
+  -- Document 02, order 6: "We also want a total: the bytes beneath a folder". All N inodes are still unvisited.
+  unfoldable pub total : ℕ → Answer ℕ
+  total d =
+      let u = view m in
+      firstRefusal (closedChecks len m ++ (noneThere u P N d, notThere) ∷ (not (isDirectory u d), wrongType) ∷ [])
+      (done (beneath u P N N d))
 
   unfoldable pub countFree : Answer ℕ
   countFree = firstRefusal (closedChecks len m) (done (freeCount (view m) P N))
@@ -147,8 +169,8 @@ module _ (len : ℕ) (m : Mem) where
       let gs = gaps (view m) P N in
       firstRefusal (closedChecks len m ++ (ltb n (length gs), tooManyGaps) ∷ []) (done gs)
 
-unfoldable pub findAnswer : List ℕ → List ℕ → Answer ℕ
-findAnswer v n = find (length v) (word v) root n
+unfoldable pub findAnswer : List ℕ → ℕ → List ℕ → Answer ℕ
+findAnswer v d n = find (length v) (word v) d n
 
 unfoldable pub sizeAnswer : List ℕ → ℕ → Answer ℕ
 sizeAnswer v k = size (length v) (word v) k
@@ -161,11 +183,14 @@ unfoldable pub readBuffer : List ℕ → ℕ → ℕ → List ℕ → List ℕ
 readBuffer v k o buffer = filledFrom buffer (read (length v) (word v) k o (length buffer))
 
 -- "K-th name writes 32 bytes, zeros after the name, and answers the name's length; bytes past 32 stay."
-unfoldable pub kthNameAnswer : List ℕ → ℕ → List ℕ → Answer ℕ
-kthNameAnswer v k buffer = mapAnswer length (kthName (length v) (word v) root k (length buffer))
+unfoldable pub kthNameAnswer : List ℕ → ℕ → ℕ → List ℕ → Answer ℕ
+kthNameAnswer v d k buffer = mapAnswer length (kthName (length v) (word v) d k (length buffer))
 
-unfoldable pub kthNameBuffer : List ℕ → ℕ → List ℕ → List ℕ
-kthNameBuffer v k buffer = filledFrom buffer (mapAnswer padded (kthName (length v) (word v) root k (length buffer)))
+unfoldable pub kthNameBuffer : List ℕ → ℕ → ℕ → List ℕ → List ℕ
+kthNameBuffer v d k buffer = filledFrom buffer (mapAnswer padded (kthName (length v) (word v) d k (length buffer)))
+
+unfoldable pub totalAnswer : List ℕ → ℕ → Answer ℕ
+totalAnswer v d = total (length v) (word v) d
 
 unfoldable pub freeAnswer : List ℕ → Answer ℕ
 freeAnswer v = countFree (length v) (word v)

@@ -1,3 +1,5 @@
--- Judged has the laws for crates above; Inodes is about where names lead.
+-- For crates above: Judged and Listing are about one folder's names, Inodes about where names lead, Lowest about the lowest invalid inode.
 pub mod Judged
-mod Inodes
+pub mod Listing
+pub mod Inodes
+pub mod Lowest

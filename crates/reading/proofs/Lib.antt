@@ -1,2 +1,3 @@
--- The cases of the reading calls.
+-- Answers has the cases of the calls that read a file, Folders those of the calls that read a folder.
 mod Answers
+mod Folders

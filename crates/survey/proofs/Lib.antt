@@ -1,1 +1,5 @@
-pub mod Facts
+-- Noted and Settled are about the table of the tree, Folders and Facts about the functions' cases.
+mod Noted
+mod Settled
+mod Folders
+mod Facts

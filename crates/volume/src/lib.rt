@@ -1,10 +1,10 @@
-// The sixteen calls of the file store. Each works from the lent volume v alone, takes any bytes and any numbers, and answers
+// The eighteen calls of the file store. Each works from the lent volume v alone, takes any bytes and any numbers, and answers
 // what documents 01 and 02 say; a refusal leaves every lent byte as it was. A call that changes files fills a lent store list and
 // leaves the volume: carry_out stores it.
 ghost use mathlib.Core.Path.{_≡_};
-ghost use Rattle.model.specs.FileMap.{create, link, unlink, rename, write, setSize, clean, recover};
+ghost use Rattle.model.specs.FileMap.{create, createFolder, link, unlink, rename, write, setSize, clean, recover};
 ghost use Rattle.model.specs.Public.{formatAnswer, formatVolume, carryAnswer, carryVolume, findAnswer, freeAnswer, kthNameAnswer};
-ghost use Rattle.model.specs.Public.{kthNameBuffer};
+ghost use Rattle.model.specs.Public.{kthNameBuffer, totalAnswer};
 ghost use Rattle.model.specs.Public.{sizeAnswer, readAnswer, readBuffer, gapsAnswer, gapsList};
 ghost use Rattle.answer.specs.Comes.{Fills};
 ghost use Rattle.answer.specs.Meaning.{meaning, plain, numbered};
@@ -37,53 +37,80 @@ pub fn carry_out(v: &mut [u8], list: &[u64], count: u64) -> Answer
     storing::carry_out(v, list, count)
 }
 
-// Makes a new, empty file with a name: fills the list with the stores that add the name and make the lowest invalid inode valid. Answers
-// Number with the count of words filled. No file gets the name "." or "..": that is BadName, here and as the new name of link and rename.
-// Refusals: ShortMemory, NoVolume, Damaged, JournalOpen, BadName, Taken, NoInode, DirectoryFull, NoSpace, LastPage.
-// Example: of 16 pages just formatted with 8 inodes create(v, b"A1", list) is Number(46); carried out, "A1" leads to inode 1.
-pub fn create(v: &[u8], name: &[u8], list: &mut [u64]) -> Answer
-    ensures { λ r. ⌜ Fills (now (v .entry)) (now (list .entry)) (create (now (name .entry))) r (now (list .exit)) ⌝ }
+// Makes a new, empty file with a name in a folder: fills the list with the stores that add the name and make the lowest invalid inode
+// valid.
+// Answers Number with the count of words filled. No file or folder gets the name "." or "..": that is BadName, here and as the new name of
+// link and rename.
+// Refusals: ShortMemory, NoVolume, Damaged, JournalOpen, BadName, NotThere, Taken, WrongType, NoInode, DirectoryFull, NoSpace, LastPage.
+// Example: of 16 pages just formatted with 8 inodes create(v, 0, b"A1", list) is Number(48); carried out, "A1" leads to inode 1.
+pub fn create(v: &[u8], folder: u64, name: &[u8], list: &mut [u64]) -> Answer
+    ensures { λ r. ⌜ Fills (now (v .entry)) (now (list .entry)) (create folder (now (name .entry))) r (now (list .exit)) ⌝ }
 {
-    naming::create(v, name, list)
+    naming::create(v, folder, name, list)
+}
+
+// Makes a new folder without names in a folder, as `create` makes a file, and with the same refusals.
+// Example: of 16 pages just formatted with 8 inodes create_folder(v, 0, b"A", list) is Number(48); carried out, "A" leads to inode 1.
+pub fn create_folder(v: &[u8], folder: u64, name: &[u8], list: &mut [u64]) -> Answer
+    ensures { λ r. ⌜ Fills (now (v .entry)) (now (list .entry)) (createFolder folder (now (name .entry))) r (now (list .exit)) ⌝ }
+{
+    naming::create_folder(v, folder, name, list)
 }
 
 // Gives a file a further name: fills the list with the stores that add the new name for the inode of the old one. Answers Number with the
 // count of words filled.
-// Refusals: ShortMemory, NoVolume, Damaged, JournalOpen, BadName, NotThere, Taken, DirectoryFull, NoSpace, LastPage.
-// Example: where "A1" is the only name and the directory's log page has room for an entry, link(v, b"A1", b"A2", list) is Number(22), and
-// link(v, b"A1", b"A1", list) Taken.
-pub fn link(v: &[u8], old: &[u8], new: &[u8], list: &mut [u64]) -> Answer
-    ensures { λ r. ⌜ Fills (now (v .entry)) (now (list .entry)) (link (now (old .entry)) (now (new .entry))) r (now (list .exit)) ⌝ }
+// Refusals: ShortMemory, NoVolume, Damaged, JournalOpen, BadName, NotThere, Taken, WrongType, DirectoryFull, NoSpace, LastPage.
+// Example: where "A1" is the only name and the log page of inode 0 has room for an entry, link(v, 0, b"A1", 0, b"A2", list) is Number(22),
+// and link(v, 0, b"A1", 0, b"A1", list) Taken.
+pub fn link(
+    v: &[u8],
+    old_folder: u64,
+    old: &[u8],
+    new_folder: u64,
+    new: &[u8],
+    list: &mut [u64],
+) -> Answer
+    ensures { λ r. ⌜ Fills (now (v .entry)) (now (list .entry))
+        (link «old_folder» (now (old .entry)) «new_folder» (now (new .entry))) r (now (list .exit)) ⌝ }
 {
-    naming::link(v, old, new, list)
+    naming::link(v, old_folder, old, new_folder, new, list)
 }
 
-// Takes a name away: fills the list with the stores that remove it and, where it is the last name of its file, make the file's inode
-// invalid. Answers Number with the count of words filled.
-// Refusals: ShortMemory, NoVolume, Damaged, JournalOpen, BadName, NotThere, NoSpace.
-// Example: where "A1" is the only name of inode 1 and the directory's log page has room for an entry, unlink(v, b"A1", list) is Number(40).
-pub fn unlink(v: &[u8], name: &[u8], list: &mut [u64]) -> Answer
-    ensures { λ r. ⌜ Fills (now (v .entry)) (now (list .entry)) (unlink (now (name .entry))) r (now (list .exit)) ⌝ }
+// Takes a name away: fills the list with the stores that remove it and, where it is the last name of its file or that of a folder, make the
+// inode invalid. Answers Number with the count of words filled.
+// Refusals: ShortMemory, NoVolume, Damaged, JournalOpen, BadName, NotThere, WrongType, NotEmpty, NoSpace.
+// Example: where "A1" is the only name of inode 1 and the log page of inode 0 has room for an entry, unlink(v, 0, b"A1", list) is
+// Number(40).
+pub fn unlink(v: &[u8], folder: u64, name: &[u8], list: &mut [u64]) -> Answer
+    ensures { λ r. ⌜ Fills (now (v .entry)) (now (list .entry)) (unlink folder (now (name .entry))) r (now (list .exit)) ⌝ }
 {
-    naming::unlink(v, name, list)
+    naming::unlink(v, folder, name, list)
 }
 
-// Gives a file another name in place of one: fills the list with the stores that remove the old name, add the new one for its inode and,
-// where the new name was the last of another file, make that file's inode invalid. Nothing is filled where both names lead to one inode.
-// Answers Number with the count of words filled.
-// Refusals: ShortMemory, NoVolume, Damaged, JournalOpen, BadName, NotThere, NoSpace.
-// Example: where "A1" is the only name and the directory's log page has room for two entries, rename(v, b"A1", b"A2", list) is Number(38),
-// and rename(v, b"A1", b"A1", list) Number(0).
-pub fn rename(v: &[u8], old: &[u8], new: &[u8], list: &mut [u64]) -> Answer
-    ensures { λ r. ⌜ Fills (now (v .entry)) (now (list .entry)) (rename (now (old .entry)) (now (new .entry))) r (now (list .exit)) ⌝ }
+// Gives a file or folder another name in place of one, in the same folder or in another: fills the list with the stores that remove the old
+// name, add the new one for its inode and, where the new name was the last of another file, make that file's inode invalid. Nothing is
+// filled where both names lead to one inode. Answers Number with the count of words filled.
+// Refusals: ShortMemory, NoVolume, Damaged, JournalOpen, BadName, NotThere, WrongType, IntoItself, DirectoryFull, NoSpace.
+// Example: where "A1" is the only name and the log page of inode 0 has room for two entries, rename(v, 0, b"A1", 0, b"A2", list) is
+// Number(38), and rename(v, 0, b"A1", 0, b"A1", list) Number(0).
+pub fn rename(
+    v: &[u8],
+    old_folder: u64,
+    old: &[u8],
+    new_folder: u64,
+    new: &[u8],
+    list: &mut [u64],
+) -> Answer
+    ensures { λ r. ⌜ Fills (now (v .entry)) (now (list .entry))
+        (rename «old_folder» (now (old .entry)) «new_folder» (now (new .entry))) r (now (list .exit)) ⌝ }
 {
-    naming::rename(v, old, new, list)
+    naming::rename(v, old_folder, old, new_folder, new, list)
 }
 
 // Writes bytes to a file from an offset on: fills the list with the store list. The data goes to the lowest run of free pages that is long
 // enough or, where there is none, to the lowest free pages. Answers Number with the count of words filled, 0 where there are no bytes to
 // write.
-// Refusals: ShortMemory, NoVolume, Damaged, JournalOpen, NotThere, LongWrite, PastTheEnd, NoSpace, LastPage.
+// Refusals: ShortMemory, NoVolume, Damaged, JournalOpen, NotThere, WrongType, LongWrite, PastTheEnd, NoSpace, LastPage.
 // Example: where inode 1 is an empty file with a log page that has room for an entry, write(v, 1, 0, b"abcd", list) is Number(150), and
 // write(v, 1, 65533, b"abcd", list) is PastTheEnd.
 pub fn write(v: &[u8], inode: u64, offset: u64, bytes: &[u8], list: &mut [u64]) -> Answer
@@ -94,7 +121,7 @@ pub fn write(v: &[u8], inode: u64, offset: u64, bytes: &[u8], list: &mut [u64]) 
 
 // Sets the size of a file: fills the list with the store list. Answers Number with the count of words filled, 0 where the file has that
 // size already.
-// Refusals: ShortMemory, NoVolume, Damaged, JournalOpen, NotThere, PastTheEnd, NoSpace, LastPage.
+// Refusals: ShortMemory, NoVolume, Damaged, JournalOpen, NotThere, WrongType, PastTheEnd, NoSpace, LastPage.
 // Example: where inode 1 is a file of 1,024 bytes on two pages and its log has a page with room for two entries, set_size(v, 1, 700, list)
 // is Number(166), set_size(v, 1, 512, list) Number(22), set_size(v, 1, 1024, list) Number(0) and set_size(v, 1, 65537, list) PastTheEnd.
 pub fn set_size(v: &[u8], inode: u64, size: u64, list: &mut [u64]) -> Answer
@@ -124,17 +151,27 @@ pub fn recover(v: &[u8], list: &mut [u64]) -> Answer
     cleaning::recover(v, list)
 }
 
-// Looks a name up and answers Number with its inode.
-// Refusals: NoVolume, Damaged, JournalOpen, BadName, NotThere.
-// Example: where the name "A1" leads to inode 1, find(v, b"A1") is Number(1), find(v, b"A2") NotThere and find(v, b"") BadName.
-pub fn find(v: &[u8], name: &[u8]) -> Answer
-    ensures { λ r. ⌜ meaning r ≡ numbered (findAnswer (now (v .entry)) (now (name .entry))) ⌝ }
+// Looks a name up in a folder and answers Number with its inode.
+// Refusals: NoVolume, Damaged, JournalOpen, BadName, NotThere, WrongType.
+// Example: where the name "A1" of inode 0 leads to inode 1, find(v, 0, b"A1") is Number(1), find(v, 0, b"A2") NotThere and find(v, 0, b"")
+// BadName.
+pub fn find(v: &[u8], folder: u64, name: &[u8]) -> Answer
+    ensures { λ r. ⌜ meaning r ≡ numbered (findAnswer (now (v .entry)) folder (now (name .entry))) ⌝ }
 {
-    reading::find(v, name)
+    reading::find(v, folder, name)
+}
+
+// Answers Number with the bytes beneath a folder: the sum over its names, of a file its size and of a folder what lies beneath it.
+// Refusals: NoVolume, Damaged, JournalOpen, NotThere, WrongType.
+// Example: where "A1" and "A2" of inode 0 lead to one file of 514 bytes and nothing else stands there, total(v, 0) is Number(1028).
+pub fn total(v: &[u8], folder: u64) -> Answer
+    ensures { λ r. ⌜ meaning r ≡ numbered (totalAnswer (now (v .entry)) folder) ⌝ }
+{
+    reading::total(v, folder)
 }
 
 // Answers Number with the size of a file.
-// Refusals: NoVolume, Damaged, JournalOpen, NotThere.
+// Refusals: NoVolume, Damaged, JournalOpen, NotThere, WrongType.
 // Example: where inode 1 is a file of 514 bytes, size(v, 1) is Number(514); size(v, 0) is NotThere.
 pub fn size(v: &[u8], inode: u64) -> Answer
     ensures { λ r. ⌜ meaning r ≡ numbered (sizeAnswer (now (v .entry)) inode) ⌝ }
@@ -144,7 +181,7 @@ pub fn size(v: &[u8], inode: u64) -> Answer
 
 // Lays the bytes of a file from an offset on into a buffer, as many as the file has there, up to the buffer, and answers Number with
 // how many; the rest of the buffer keeps its bytes.
-// Refusals: NoVolume, Damaged, JournalOpen, NotThere.
+// Refusals: NoVolume, Damaged, JournalOpen, NotThere, WrongType.
 // Example: where inode 1 is a file of 514 bytes and the buffer has 16, read(v, 1, 508, buffer) is Number(6) and lays bytes 508 to 513;
 // read(v, 1, 514, buffer) is Number(0).
 pub fn read(v: &[u8], inode: u64, offset: u64, buffer: &mut [u8]) -> Answer
@@ -154,16 +191,15 @@ pub fn read(v: &[u8], inode: u64, offset: u64, buffer: &mut [u8]) -> Answer
     reading::read(v, inode, offset, buffer)
 }
 
-// Lays the k-th name of the directory, counted from 0, into the first 32 bytes of a buffer, zeros after it, and answers Number
-// with its length.
-// Refusals: ShortMemory, NoVolume, Damaged, JournalOpen, NotThere.
-// Example: where "A1" is the only name, kth_name(v, 0, buffer) is Number(2) and makes the buffer begin with 65, 49 and 30 zeros;
-// kth_name(v, 1, buffer) is NotThere.
-pub fn kth_name(v: &[u8], k: u64, buffer: &mut [u8]) -> Answer
-    ensures { λ r. ⌜ (meaning r ≡ numbered (kthNameAnswer (now (v .entry)) k (now (buffer .entry))))
-        × (now (buffer .exit) ≡ kthNameBuffer (now (v .entry)) k (now (buffer .entry))) ⌝ }
+// Lays the k-th name of a folder, counted from 0, into the first 32 bytes of a buffer, zeros after it, and answers Number with its length.
+// Refusals: ShortMemory, NoVolume, Damaged, JournalOpen, NotThere, WrongType.
+// Example: where "A1" is the only name of inode 0, kth_name(v, 0, 0, buffer) is Number(2) and makes the buffer begin with 65, 49 and 30
+// zeros; kth_name(v, 0, 1, buffer) is NotThere.
+pub fn kth_name(v: &[u8], folder: u64, k: u64, buffer: &mut [u8]) -> Answer
+    ensures { λ r. ⌜ (meaning r ≡ numbered (kthNameAnswer (now (v .entry)) folder k (now (buffer .entry))))
+        × (now (buffer .exit) ≡ kthNameBuffer (now (v .entry)) folder k (now (buffer .entry))) ⌝ }
 {
-    reading::kth_name(v, k, buffer)
+    reading::kth_name(v, folder, k, buffer)
 }
 
 // Answers Number with the count of free pages.

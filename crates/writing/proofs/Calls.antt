@@ -9,9 +9,9 @@ use Rattle.model.specs.State.{File, fileOf}
 use Rattle.model.specs.Stores.{noWords, storeList}
 use Rattle.model.specs.Accept.{isValid}
 use Rattle.model.specs.FileMap.{Call, write, setSize}
-use Rattle.model.specs.Answer.{done, Checks, firstRefusal, shortMemory, notThere, longWrite, pastTheEnd}
+use Rattle.model.specs.Answer.{done, Checks, firstRefusal, shortMemory, longWrite, pastTheEnd}
 use Rattle.model.specs.Calls as calls
-use Rattle.model.specs.Calls.{pagesCovered, noFile, checks, groups, action, actionChecks, actionGroups, spaceChecks, writeAppend, writeAction, sizeAppend, sizeAction}
+use Rattle.model.specs.Calls.{pagesCovered, fileChecks, checks, groups, action, actionChecks, actionGroups, spaceChecks, writeAppend, writeAction, sizeAppend, sizeAction}
 use Rattle.model.specs.Public.{volumeChecks, closedChecks, needsClosed, size, sizeAnswer}
 use Rattle.model.proofs.Crash.Journal.{closed-view}
 use Rattle.contents.specs.Laid.{laid}
@@ -31,7 +31,6 @@ use Rattle.append.proofs.Outcomes.{one-log-ready, one-log, all-first, zeroed-no
 use Rattle.gate.specs.Gated.{fillChecks}
 use Rattle.gate.proofs.Lists.{filledWords, ownChecks, came}
 use Rattle.state.specs.Stated.{FileState, Stated}
-use Rattle.state.proofs.Sizes.{there-valid}
 use Rattle.state.proofs.Within.{file-below}
 use Rattle.fresh.specs.Fresh.{writtenOver, freshWord}
 use Rattle.writing.specs.Appends.{fileAppend}
@@ -40,9 +39,9 @@ use Rattle.writing.proofs.Words.{written-taken, written-at, write-words
 
 -- Call c asks whether inode k is a file, and then the rest.
 module _ (v l : List ℕ) (c : Call) (closed : needsClosed c ≡ true) (k : ℕ) (rest : Checks)
-    (own : ownChecks v c ≡ (noFile (view (word v)) (word v 0) (word v 1) k, notThere) ∷ rest) where
+    (own : ownChecks v c ≡ fileChecks (view (word v)) (word v 0) (word v 1) k ++ rest) where
   abbrev first : Checks
-  first = closedChecks (length v) (word v) ++ (noFile (view (word v)) (word v 0) (word v 1) k, notThere) ∷ []
+  first = closedChecks (length v) (word v) ++ fileChecks (view (word v)) (word v 0) (word v 1) k
 
   short : length l < 4096 → Comes (cameTo v l c) l ShortMemory l
   unfolding fillChecks
@@ -50,7 +49,7 @@ module _ (v l : List ℕ) (c : Call) (closed : needsClosed c ≡ true) (k : ℕ)
 
   module _ (h : 4096 ≤ length l) (r : Answer) (marks t : List ℕ) (a : Stated v k r marks t) where
     staged : cameTo v l c ≡ firstRefusal first (firstRefusal rest (done (filledWords v c)))
-    unfolding fillChecks closedChecks volumeChecks
+    unfolding fillChecks closedChecks volumeChecks fileChecks
     staged = rw (came v l c closed, le-ltb (length l) 4096 h, own)
 
     sized : meaning r ≡ numbered (firstRefusal first (done (fileOf (view (word v)) (word v 0) (word v 1) k .size)))
@@ -68,8 +67,7 @@ module _ (v l : List ℕ) (c : Call) (closed : needsClosed c ≡ true) (k : ℕ)
 module _ (v l : List ℕ) (h : 4096 ≤ length l) (k s : ℕ) (marks t : List ℕ) (f : FileState v k s marks t)
     (i z : ℕ) (d : Append) (same-append : d ≡ fileAppend k i z) where
   valid-here : isValid (word v) k ≡ true
-  unfolding noFile
-  valid-here = rw (closed-view (word v) (f .closed)) at (there-valid (view (word v)) (word v 1) k (f .there))
+  valid-here = rw (closed-view (word v) (f .closed)) at (f .valid)
 
   file-ready : (ws ds : List ℕ) → 0 < length ws / 8 + length ds / 64 → length ws ≤ 8 → length ds ≤ 576 → 64 * (length ds / 64) ≡ length ds
       → i < 4294967296 → Ready v marks d ws ds l
@@ -103,8 +101,8 @@ module _ (v l : List ℕ) (k o : ℕ) (bs : List ℕ) where
       (ltb writeBytes (length bs), longWrite) ∷ (ltb fileBytes (o + length bs), pastTheEnd)
       ∷ cond (eqb (length bs) 0) [] (spaceChecks (view (word v)) (word v 0) (word v 1) true (written ∷ []))
 
-  write-own : ownChecks v (write k o bs) ≡ (noFile (view (word v)) (word v 0) (word v 1) k, notThere) ∷ writeRest
-  unfolding checks action actionChecks writeAction
+  write-own : ownChecks v (write k o bs) ≡ fileChecks (view (word v)) (word v 0) (word v 1) k ++ writeRest
+  unfolding checks action actionChecks writeAction fileChecks
   write-own = refl
 
   pub write-short : length l < 4096 → Comes (cameTo v l (write k o bs)) l ShortMemory l
@@ -185,8 +183,8 @@ module _ (v l : List ℕ) (k z : ℕ) where
       (ltb fileBytes z, pastTheEnd)
       ∷ cond (eqb z (fileOf (view (word v)) (word v 0) (word v 1) k .size)) [] (spaceChecks (view (word v)) (word v 0) (word v 1) true (resized ∷ []))
 
-  size-own : ownChecks v (setSize k z) ≡ (noFile (view (word v)) (word v 0) (word v 1) k, notThere) ∷ sizeRest
-  unfolding checks action actionChecks sizeAction
+  size-own : ownChecks v (setSize k z) ≡ fileChecks (view (word v)) (word v 0) (word v 1) k ++ sizeRest
+  unfolding checks action actionChecks sizeAction fileChecks
   size-own = refl
 
   pub size-short : length l < 4096 → Comes (cameTo v l (setSize k z)) l ShortMemory l

@@ -27,6 +27,7 @@ fn to_file(k: usize, file: u64, size: u64) -> Append
         moved: 0,
         other: 0,
         valid: 0,
+        kind: layout::FILE_TYPE,
         keeps: true,
     }
 }
@@ -34,7 +35,7 @@ fn to_file(k: usize, file: u64, size: u64) -> Append
 // Writes bytes to a file from an offset on: fills the list with the store list. The data goes to the lowest run of free pages that is long
 // enough or, where there is none, to the lowest free pages. Answers Number with the count of words filled, 0 where there are no bytes to
 // write.
-// Refusals: ShortMemory, NoVolume, Damaged, JournalOpen, NotThere, LongWrite, PastTheEnd, NoSpace, LastPage.
+// Refusals: ShortMemory, NoVolume, Damaged, JournalOpen, NotThere, WrongType, LongWrite, PastTheEnd, NoSpace, LastPage.
 // Example: where inode 1 is an empty file with a log page that has room for an entry, write(v, 1, 0, b"abcd", list) is Number(150), and
 // write(v, 1, 65533, b"abcd", list) is PastTheEnd.
 pub fn write(v: &[u8], inode: u64, offset: u64, bytes: &[u8], list: &mut [u64]) -> Answer
@@ -112,7 +113,7 @@ fn lay_kept(v: &[u8], table: &[u64; 128], size: u64, new: u64, data: &mut [u64; 
 
 // Sets the size of a file: fills the list with the store list. Answers Number with the count of words filled, 0 where the file has that
 // size already.
-// Refusals: ShortMemory, NoVolume, Damaged, JournalOpen, NotThere, PastTheEnd, NoSpace, LastPage.
+// Refusals: ShortMemory, NoVolume, Damaged, JournalOpen, NotThere, WrongType, PastTheEnd, NoSpace, LastPage.
 // Example: where inode 1 is a file of 1,024 bytes on two pages and its log has a page with room for two entries, set_size(v, 1, 700, list)
 // is Number(166), set_size(v, 1, 512, list) Number(22), set_size(v, 1, 1024, list) Number(0) and set_size(v, 1, 65537, list) PastTheEnd.
 pub fn set_size(v: &[u8], inode: u64, size: u64, list: &mut [u64]) -> Answer

@@ -10,11 +10,30 @@ pub fn standing(volume: &[u8]) -> FileMap {
     judge(volume).map_or_else(|_| FileMap::default(), |judged| map(&judged))
 }
 
-/// A name: mostly one that stands, if there is one.
-pub fn old_name(map: &FileMap, random: &mut Random) -> Vec<u8> {
-    match random.choose(&map.names) {
-        Some((name, _)) if !random.once_in(4) => name.clone(),
-        _ => new_name(random),
+/// The names that stand, each with its folder and the inode that it leads to.
+pub fn names(map: &FileMap) -> Vec<(u64, &[u8], u64)> {
+    let folders = map.folders.iter();
+    let names = folders.flat_map(|(&folder, names)| {
+        let names = names.iter();
+        names.map(move |(name, inode)| (folder, name.as_slice(), *inode))
+    });
+    names.collect()
+}
+
+/// An inode given as folder: mostly one of a folder.
+pub fn folder(map: &FileMap, random: &mut Random) -> u64 {
+    let folders: Vec<u64> = map.folders.keys().copied().collect();
+    match random.choose(&folders) {
+        Some(&folder) if !random.once_in(6) => folder,
+        _ => inode(map, random),
+    }
+}
+
+/// A folder and a name: mostly one that stands in it, if there is one.
+pub fn old_name(map: &FileMap, random: &mut Random) -> (u64, Vec<u8>) {
+    match random.choose(&names(map)) {
+        Some(&(folder, name, _)) if !random.once_in(4) => (folder, name.to_vec()),
+        _ => (folder(map, random), new_name(random)),
     }
 }
 
@@ -32,10 +51,10 @@ pub fn new_name(random: &mut Random) -> Vec<u8> {
 pub fn inode(map: &FileMap, random: &mut Random) -> u64 {
     let files: Vec<u64> = map.files.keys().copied().collect();
     match random.choose(&files) {
-        Some(&inode) if !random.once_in(6) => inode,
-        _ => match random.once_in(2) {
-            true => random.below(17),
-            false => any_number(random),
+        Some(&inode) if !random.once_in(4) => inode,
+        _ => match random.once_in(3) {
+            true => any_number(random),
+            false => random.below(17),
         },
     }
 }

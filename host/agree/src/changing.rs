@@ -1,17 +1,21 @@
-//! Questions about the eight calls that fill a store list.
+//! Questions about the nine calls that fill a store list.
 
-use crate::arguments::{data, inode, new_name, offset, old_name, standing};
+use crate::arguments::{data, folder, inode, new_name, offset, old_name, standing};
 use crate::outcome::Outcome;
 use crate::sheet::{Equation, Sheet};
 use crate::{term, volumes};
 use reference::{Answer, Call, FileMap};
-use samples::{clean, create, link, rename, set_size, unlink, write, Random};
+use samples::{
+    clean, create_folder, create_in, link_in, rename_in, set_size, unlink_in, write, Random,
+};
 
 /// A call that fills a store list.
 #[derive(Clone, Copy, Debug, PartialEq, Eq)]
 pub enum Kind {
     /// Create.
     Create,
+    /// Create folder.
+    CreateFolder,
     /// Link.
     Link,
     /// Unlink.
@@ -29,9 +33,10 @@ pub enum Kind {
 }
 
 impl Kind {
-    /// All eight.
-    pub const ALL: [Kind; 8] = [
+    /// All nine.
+    pub const ALL: [Kind; 9] = [
         Kind::Create,
+        Kind::CreateFolder,
         Kind::Link,
         Kind::Unlink,
         Kind::Rename,
@@ -41,15 +46,31 @@ impl Kind {
         Kind::Recover,
     ];
 
+    /// The kind of a call.
+    pub fn of(call: &Call) -> Kind {
+        match call {
+            Call::Create { .. } => Kind::Create,
+            Call::CreateFolder { .. } => Kind::CreateFolder,
+            Call::Link { .. } => Kind::Link,
+            Call::Unlink { .. } => Kind::Unlink,
+            Call::Rename { .. } => Kind::Rename,
+            Call::Write { .. } => Kind::Write,
+            Call::SetSize { .. } => Kind::SetSize,
+            Call::Clean { .. } => Kind::Clean,
+            Call::Recover => Kind::Recover,
+        }
+    }
+
     /// The call's name, and the refusals that documents 01 and 02 give it.
     pub fn told(self) -> (&'static str, &'static [u64]) {
         match self {
-            Kind::Create => ("create", &[1, 2, 3, 4, 5, 7, 10, 11, 12, 15]),
-            Kind::Link => ("link", &[1, 2, 3, 4, 5, 6, 7, 11, 12, 15]),
-            Kind::Unlink => ("unlink", &[1, 2, 3, 4, 5, 6, 12]),
-            Kind::Rename => ("rename", &[1, 2, 3, 4, 5, 6, 12]),
-            Kind::Write => ("write", &[1, 2, 3, 4, 6, 8, 9, 12, 15]),
-            Kind::SetSize => ("set size", &[1, 2, 3, 4, 6, 9, 12, 15]),
+            Kind::Create => ("create", &[1, 2, 3, 4, 5, 6, 7, 10, 11, 12, 15, 16]),
+            Kind::CreateFolder => ("create folder", Kind::Create.told().1),
+            Kind::Link => ("link", &[1, 2, 3, 4, 5, 6, 7, 11, 12, 15, 16]),
+            Kind::Unlink => ("unlink", &[1, 2, 3, 4, 5, 6, 12, 16, 17]),
+            Kind::Rename => ("rename", &[1, 2, 3, 4, 5, 6, 11, 12, 16, 18]),
+            Kind::Write => ("write", &[1, 2, 3, 4, 6, 8, 9, 12, 15, 16]),
+            Kind::SetSize => ("set size", &[1, 2, 3, 4, 6, 9, 12, 15, 16]),
             Kind::Clean => ("clean", &[1, 2, 3, 4, 6, 12]),
             Kind::Recover => ("recover", &[1, 2, 3]),
         }
@@ -57,19 +78,38 @@ impl Kind {
 
     /// Whether the call may be done with nothing to change.
     pub fn may_change_nothing(self) -> bool {
-        !matches!(self, Kind::Create | Kind::Link | Kind::Unlink)
+        !matches!(
+            self,
+            Kind::Create | Kind::CreateFolder | Kind::Link | Kind::Unlink
+        )
     }
 
     /// The call with arguments that are often right.
     pub fn call(self, map: &FileMap, random: &mut Random) -> Call {
         match self {
-            Kind::Create => match random.once_in(4) {
-                true => create(&old_name(map, random)),
-                false => create(&new_name(random)),
-            },
-            Kind::Link => link(&old_name(map, random), &new_name(random)),
-            Kind::Unlink => unlink(&old_name(map, random)),
-            Kind::Rename => rename(&old_name(map, random), &old_name(map, random)),
+            Kind::Create | Kind::CreateFolder => {
+                let (folder, name) = match random.once_in(4) {
+                    true => old_name(map, random),
+                    false => (folder(map, random), new_name(random)),
+                };
+                match self {
+                    Kind::Create => create_in(folder, &name),
+                    _ => create_folder(folder, &name),
+                }
+            }
+            Kind::Link => {
+                let (old_folder, old) = old_name(map, random);
+                link_in(old_folder, &old, folder(map, random), &new_name(random))
+            }
+            Kind::Unlink => {
+                let (folder, name) = old_name(map, random);
+                unlink_in(folder, &name)
+            }
+            Kind::Rename => {
+                let [(old_folder, old), (new_folder, new)] =
+                    [(); 2].map(|()| old_name(map, random));
+                rename_in(old_folder, &old, new_folder, &new)
+            }
             Kind::Write => {
                 let inode = inode(map, random);
                 write(inode, offset(map, inode, random), &data(random))
@@ -124,14 +164,19 @@ impl Made {
     pub fn by_words(&self, name: &str) -> Sheet {
         let mut sheet = Sheet::new(name);
         let words = sheet.words(&self.volume);
+        sheet.ask(self.filling(&words));
+        sheet
+    }
+
+    /// The equation of the words that the call fills, from the words of the volume.
+    pub fn filling(&self, words: &str) -> Equation {
         let (length, lent) = (self.volume.len(), self.before.len());
         let filled = |count: u64| term::numbers(&self.after[..count as usize]);
-        sheet.ask(Equation {
+        Equation {
             kind: "Answer (List ℕ)",
             left: format!("fills {length} {words} {lent} {}", term::call(&self.call)),
             right: term::answered(self.answer.map(filled)),
-        });
-        sheet
+        }
     }
 
     /// Asks for the list afterwards, from the volume's bytes; for the answer too if `answered`.
@@ -178,6 +223,12 @@ pub fn changing(kind: Kind, outcome: Outcome, name: &str, random: &mut Random) -
         Outcome::Refused(1 | 2) => made.by_bytes(name, true),
         _ => made.by_words(name),
     })
+}
+
+/// This call on this volume, where it comes to an outcome.
+pub fn given(call: &Call, volume: Vec<u8>, outcome: Outcome, name: &str) -> Option<Sheet> {
+    let made = Made::of(call.clone(), volume, 4_096);
+    (Outcome::of_filling(made.answer) == outcome).then(|| made.by_words(name))
 }
 
 /// A done call, by bytes: the whole list afterwards, with the rest that keeps its content. That the

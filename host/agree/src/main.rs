@@ -16,7 +16,6 @@
 
 mod arguments;
 mod changing;
-mod dot_names;
 mod last_page;
 mod maps;
 mod module;
@@ -163,8 +162,8 @@ mod tests {
     /// The numbers of a cell, without what stands in brackets.
     fn numbers(cell: &str) -> impl Iterator<Item = u64> + '_ {
         cell.split(", ").filter_map(|part| {
-            let number = part.split_whitespace().next()?;
-            number.parse().ok()
+            let mut words = part.split_whitespace();
+            words.find_map(|word| word.parse().ok())
         })
     }
 }

@@ -49,7 +49,7 @@ pub fn header(definitions: &[(String, Vec<String>)]) -> String {
          use Rattle.model.specs.Answer.{Answer, refused, done, Nothing, mapAnswer}\n\
          use Rattle.model.specs.Power.{Power, held, cut}\n\
          use Rattle.model.specs.FileMap.{FileMap}\n\
-         use Rattle.model.specs.FileMap.{create, link, unlink, rename, write, setSize}\n\
+         use Rattle.model.specs.FileMap.{create, createFolder, link, unlink, rename, write, setSize}\n\
          use Rattle.model.specs.FileMap.{clean, recover}\n",
     );
     for (module, names) in definitions {

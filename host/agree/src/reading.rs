@@ -1,10 +1,12 @@
 //! Questions about the reading calls and about what volume-list prints.
 
-use crate::arguments::{inode, new_name, offset, old_name, standing};
+use crate::arguments::{folder, inode, offset, old_name, standing};
 use crate::outcome::Outcome;
 use crate::sheet::{Equation, Sheet};
 use crate::{term, volumes};
-use reference::{find, free_count, gaps, kth_name, listing, read, size, Answer, FileMap, Refusal};
+use reference::{
+    find, free_count, gaps, kth_name, listing, read, size, total, Answer, FileMap, Refusal,
+};
 use samples::{any_number, formatted, marked_list, Random};
 
 /// A reading call.
@@ -18,6 +20,8 @@ pub enum Kind {
     Read,
     /// K-th name.
     KthName,
+    /// Total.
+    Total,
     /// Count of free pages.
     FreeCount,
     /// Gaps.
@@ -28,11 +32,12 @@ pub enum Kind {
 
 impl Kind {
     /// All of them.
-    pub const ALL: [Kind; 7] = [
+    pub const ALL: [Kind; 8] = [
         Kind::Find,
         Kind::Size,
         Kind::Read,
         Kind::KthName,
+        Kind::Total,
         Kind::FreeCount,
         Kind::Gaps,
         Kind::Listing,
@@ -41,10 +46,11 @@ impl Kind {
     /// The call's name, and the refusals that documents 01 and 02 give it.
     pub fn told(self) -> (&'static str, &'static [u64]) {
         match self {
-            Kind::Find => ("find", &[2, 3, 4, 5, 6]),
-            Kind::Size => ("size", &[2, 3, 4, 6]),
-            Kind::Read => ("read", &[2, 3, 4, 6]),
-            Kind::KthName => ("k-th name", &[1, 2, 3, 4, 6]),
+            Kind::Find => ("find", &[2, 3, 4, 5, 6, 16]),
+            Kind::Size => ("size", &[2, 3, 4, 6, 16]),
+            Kind::Read => ("read", &[2, 3, 4, 6, 16]),
+            Kind::KthName => ("k-th name", &[1, 2, 3, 4, 6, 16]),
+            Kind::Total => ("total", &[2, 3, 4, 6, 16]),
             Kind::FreeCount => ("free count", &[2, 3, 4]),
             Kind::Gaps => ("gaps", &[2, 3, 4, 14]),
             Kind::Listing => ("volume-list", &[2, 3, 4]),
@@ -54,10 +60,10 @@ impl Kind {
     /// The call with arguments that are often right.
     fn call(self, map: &FileMap, random: &mut Random) -> Reading {
         match self {
-            Kind::Find => Reading::Find(match random.once_in(4) {
-                true => new_name(random),
-                false => old_name(map, random),
-            }),
+            Kind::Find => {
+                let (folder, name) = old_name(map, random);
+                Reading::Find(folder, name)
+            }
             Kind::Size => Reading::Size(inode(map, random)),
             Kind::Read => {
                 let inode = inode(map, random);
@@ -66,16 +72,18 @@ impl Kind {
                 Reading::Read(inode, offset, random.bytes(length))
             }
             Kind::KthName => {
+                let folder = folder(map, random);
                 let k = match random.once_in(6) {
                     true => any_number(random),
-                    false => random.below(map.names.len() as u64 + 1),
+                    false => random.below(map.names(folder).len() as u64 + 1),
                 };
                 let length = match random.once_in(4) {
                     true => random.below(32),
                     false => random.between(32, 36),
                 };
-                Reading::KthName(k, random.bytes(length as usize))
+                Reading::KthName(folder, k, random.bytes(length as usize))
             }
+            Kind::Total => Reading::Total(folder(map, random)),
             Kind::FreeCount => Reading::FreeCount,
             Kind::Gaps => Reading::Gaps(marked_list(random.below(12))),
             Kind::Listing => Reading::Listing,
@@ -83,30 +91,49 @@ impl Kind {
     }
 }
 
-/// A reading call with its arguments: of find the name, of size the inode, of read the inode, the
-/// offset and the lent buffer, of k-th name k and the lent buffer, of gaps the words of the lent list.
+/// A reading call with its arguments: of find the folder and the name, of size the inode, of read the
+/// inode, the offset and the lent buffer, of k-th name the folder, k and the lent buffer, of total the
+/// folder, of gaps the words of the lent list.
 pub enum Reading {
-    Find(Vec<u8>),
+    Find(u64, Vec<u8>),
     Size(u64),
     Read(u64, u64, Vec<u8>),
-    KthName(u64, Vec<u8>),
+    KthName(u64, u64, Vec<u8>),
+    Total(u64),
     FreeCount,
     Gaps(Vec<u64>),
     Listing,
 }
 
 impl Reading {
+    /// The call's kind.
+    pub fn kind(&self) -> Kind {
+        match self {
+            Reading::Find(..) => Kind::Find,
+            Reading::Size(..) => Kind::Size,
+            Reading::Read(..) => Kind::Read,
+            Reading::KthName(..) => Kind::KthName,
+            Reading::Total(..) => Kind::Total,
+            Reading::FreeCount => Kind::FreeCount,
+            Reading::Gaps(..) => Kind::Gaps,
+            Reading::Listing => Kind::Listing,
+        }
+    }
+
     /// The reference's answer, and the lent buffer or list afterwards. The listing answers as the
     /// free count, which has the same refusals.
     pub fn make(&self, volume: &[u8]) -> (Answer, Vec<u64>) {
         let none = Vec::new();
         match self {
-            Reading::Find(name) => (find(volume, name), none),
+            Reading::Find(folder, name) => (find(volume, *folder, name), none),
             Reading::Size(inode) => (size(volume, *inode), none),
             Reading::Read(inode, offset, buffer) => {
                 with_buffer(buffer, |lent| read(volume, *inode, *offset, lent))
             }
-            Reading::KthName(k, buffer) => with_buffer(buffer, |lent| kth_name(volume, *k, lent)),
+            Reading::KthName(folder, k, buffer) => {
+                with_buffer(buffer, |lent| kth_name(volume, *folder, *k, lent))
+            }
+            Reading::Total(folder) => (total(volume, *folder), none),
             Reading::Gaps(list) => {
                 let mut lent = list.clone();
                 (gaps(volume, &mut lent), lent)
@@ -123,8 +150,8 @@ impl Reading {
         let (answer, lent) = self.make(volume);
         let filled = answer.map(|count| term::numbers(&lent[..(count as usize).min(lent.len())]));
         let (kind, left, right) = match self {
-            Reading::Find(name) => {
-                let left = format!("find {at} 0 {}", term::bytes(name));
+            Reading::Find(folder, name) => {
+                let left = format!("find {at} {folder} {}", term::bytes(name));
                 ("Answer ℕ", left, term::number(answer))
             }
             Reading::Size(inode) => {
@@ -135,9 +162,13 @@ impl Reading {
                 let left = format!("read {at} {inode} {offset} {}", buffer.len());
                 ("Answer (List ℕ)", left, term::answered(filled))
             }
-            Reading::KthName(k, buffer) => {
-                let left = format!("kthName {at} 0 {k} {}", buffer.len());
+            Reading::KthName(folder, k, buffer) => {
+                let left = format!("kthName {at} {folder} {k} {}", buffer.len());
                 ("Answer (List ℕ)", left, term::answered(filled))
+            }
+            Reading::Total(folder) => {
+                let left = format!("total {at} {folder}");
+                ("Answer ℕ", left, term::number(answer))
             }
             Reading::FreeCount => ("Answer ℕ", format!("countFree {at}"), term::number(answer)),
             Reading::Gaps(list) => {
@@ -162,8 +193,8 @@ impl Reading {
         let after = term::numbers(&lent);
         let answer = term::number(answer);
         match self {
-            Reading::Find(name) => {
-                let left = format!("findAnswer {v} {}", term::bytes(name));
+            Reading::Find(folder, name) => {
+                let left = format!("findAnswer {v} {folder} {}", term::bytes(name));
                 sheet.ask(numbered(left, answer));
             }
             Reading::Size(inode) => sheet.ask(numbered(format!("sizeAnswer {v} {inode}"), answer)),
@@ -172,10 +203,13 @@ impl Reading {
                 sheet.ask(numbered(format!("readAnswer {at}"), answer));
                 sheet.ask_of("buffer", listed(format!("readBuffer {at}"), after));
             }
-            Reading::KthName(k, buffer) => {
-                let at = format!("{v} {k} {}", term::bytes(buffer));
+            Reading::KthName(folder, k, buffer) => {
+                let at = format!("{v} {folder} {k} {}", term::bytes(buffer));
                 sheet.ask(numbered(format!("kthNameAnswer {at}"), answer));
                 sheet.ask_of("buffer", listed(format!("kthNameBuffer {at}"), after));
+            }
+            Reading::Total(folder) => {
+                sheet.ask(numbered(format!("totalAnswer {v} {folder}"), answer));
             }
             Reading::FreeCount => sheet.ask(numbered(format!("freeAnswer {v}"), answer)),
             Reading::Gaps(list) => {
@@ -226,6 +260,12 @@ pub fn reading(kind: Kind, outcome: Outcome, name: &str, random: &mut Random) ->
         Outcome::Refused(1 | 2) => call.by_bytes(&volume, name),
         _ => call.by_words(&volume, name),
     })
+}
+
+/// This call on this volume, where it comes to an outcome.
+pub fn given(call: &Reading, volume: &[u8], outcome: Outcome, name: &str) -> Option<Sheet> {
+    let (answer, _) = call.make(volume);
+    (Outcome::of(answer) == outcome).then(|| call.by_words(volume, name))
 }
 
 /// A call by bytes, done on a volume that is quick to read, with what it leaves in a buffer or list:

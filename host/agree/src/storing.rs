@@ -1,12 +1,14 @@
 //! Questions about format, carry out and power cuts: what is stored on a volume. All are of bytes.
 
 use crate::arguments::standing;
-use crate::changing;
+use crate::changing::{self, Made};
+use crate::maps::ask_folder;
 use crate::outcome::Outcome;
 use crate::sheet::{Equation, Sheet};
 use crate::{term, volumes};
-use reference::{carry_out, cut, format, groups, land, Refusal, FENCE};
-use samples::{any_number, filled, Random};
+use reference::layout::word;
+use reference::{carry_out, cut, format, groups, land, Call, Refusal, FENCE};
+use samples::{any_number, filled, rename_in, Random};
 
 /// Asks for an answer without a number and for the volume afterwards, of a definition pair.
 fn ask_stored(sheet: &mut Sheet, made: (Result<(), Refusal>, &[u8]), lefts: [String; 2]) {
@@ -160,22 +162,51 @@ pub fn power(count: usize, group: Option<usize>, name: &str, random: &mut Random
         return None;
     }
     let mut sheet = Sheet::new(name);
-    let at = format!("{} {}", sheet.bytes("bytes", &volume), sheet.list(&list));
+    ask_left(&mut sheet, &mut volume, &list, group, random);
+    Some(sheet)
+}
+
+/// Asks what the power leaves of a list on a volume, and leaves that there.
+fn ask_left(
+    sheet: &mut Sheet,
+    volume: &mut [u8],
+    list: &[u64],
+    group: Option<usize>,
+    random: &mut Random,
+) {
+    let at = format!("{} {}", sheet.bytes("bytes", volume), sheet.list(list));
     let power = match group {
         None => {
-            land(&mut volume, &list);
+            land(volume, list);
             "held".to_string()
         }
         Some(group) => {
-            let stores = groups(&list).into_iter().nth(group).unwrap_or_default();
+            let stores = groups(list).into_iter().nth(group).unwrap_or_default();
             let mut kept: Vec<u64> = stores.iter().map(|store| store.0).collect();
             kept.retain(|_| random.once_in(2));
             // a word that the group need not store: then it keeps its value
             kept.push(random.below(volume.len() as u64 / 8));
-            cut(&mut volume, &list, group, |index| kept.contains(&index));
+            cut(volume, list, group, |index| kept.contains(&index));
             format!("(cut {group} (λ w. has w {}))", term::numbers(&kept))
         }
     };
-    sheet.ask(leaving(format!("leaves 8 {power} {at}"), &volume));
+    sheet.ask(leaving(format!("leaves 8 {power} {at}"), volume));
+}
+
+/// What a cut in a group leaves of a move onto a file's last name: the bytes, the names of both folders, and
+/// what recover fills then.
+pub fn cut_move(group: usize, name: &str, random: &mut Random) -> Option<Sheet> {
+    let mut volume = volumes::with_folders(random);
+    let list = filled(&volume, &rename_in(1, b"b", 2, b"c")).ok()?;
+    let mut sheet = Sheet::new(name);
+    ask_left(&mut sheet, &mut volume, &list, Some(group), random);
+    let (map, pages, inodes) = (standing(&volume), word(&volume, 0), word(&volume, 1));
+    let words = sheet.words(&volume);
+    let left = format!("mapOf (view {words}) {pages} {inodes}");
+    for folder in [1, 2] {
+        ask_folder(&mut sheet, &left, &map, folder);
+    }
+    let recover = Made::of(Call::Recover, volume, 4_096);
+    sheet.ask_of("recover", recover.filling(&words));
     Some(sheet)
 }

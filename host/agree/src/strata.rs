@@ -4,9 +4,11 @@ use crate::last_page::Pages;
 use crate::outcome::Outcome;
 use crate::sheet::Sheet;
 use crate::storing::Spoiled;
-use crate::{changing, dot_names, last_page, maps, reading, scattered, storing};
+use crate::{changing, last_page, maps, reading, scattered, storing, volumes};
 use reference::Refusal;
-use samples::{create, link, name_of, rename, unlink, Random};
+use samples::{create, link, rename, unlink, Random};
+
+mod folders;
 
 /// A draw: a sheet with this name, where what was drawn comes to the stratum's outcome.
 type Draw = Box<dyn Fn(&str, &mut Random) -> Option<Sheet>>;
@@ -82,6 +84,7 @@ pub fn strata() -> Vec<Stratum> {
     all.extend(of_storing());
     all.extend(of_cuts());
     all.extend(of_maps());
+    all.extend(folders::strata());
     all
 }
 
@@ -92,7 +95,7 @@ fn outcomes(refusals: &[u64]) -> Vec<Outcome> {
     all
 }
 
-/// The eight calls that fill a store list.
+/// The nine calls that fill a store list.
 fn of_changing() -> Vec<Stratum> {
     let mut all = Vec::new();
     for kind in changing::Kind::ALL {
@@ -181,7 +184,7 @@ fn of_last_page() -> Vec<Stratum> {
     all
 }
 
-/// The six reading calls and volume-list.
+/// The seven reading calls and volume-list.
 fn of_reading() -> Vec<Stratum> {
     let mut all = Vec::new();
     for kind in reading::Kind::ALL {
@@ -222,7 +225,7 @@ fn of_reading() -> Vec<Stratum> {
 /// link and rename give "." and ".." to no file: 5 comes before 6, 7 and "nothing changes". Where they
 /// stand the volume is accepted, and they are found, listed and taken away.
 fn of_dot_names() -> Vec<Stratum> {
-    use reading::{Kind, Reading};
+    use reading::Reading;
     use Outcome::{Done, Refused};
     let both: &'static [&[u8]] = &[b".", b".."];
     let four: &'static [&[u8]] = &[b".", b"..", b"...", b".a"];
@@ -240,20 +243,23 @@ fn of_dot_names() -> Vec<Stratum> {
         (rename(b".", b"a"), four, Done, "dot name"),
         (rename(b"..", b"..."), four, Done, "over three dots"),
     ] {
-        let name = name_of(&call);
+        let kind = changing::Kind::of(&call);
         let draw = move |name: &str, random: &mut Random| {
-            dot_names::changing(&call, standing, outcome, name, random)
+            let volume = volumes::with_names(standing, random);
+            changing::given(&call, volume, outcome, name)
         };
-        all.push(Stratum::new(name, outcome, draw).with(detail));
+        all.push(Stratum::new(kind.told().0, outcome, draw).with(detail));
     }
-    for (kind, call, standing) in [
-        (Kind::Find, Reading::Find(b".".to_vec()), four),
-        (Kind::KthName, Reading::KthName(1, vec![7; 33]), both),
-        (Kind::FreeCount, Reading::FreeCount, four),
-        (Kind::Listing, Reading::Listing, four),
+    for (call, standing) in [
+        (Reading::Find(0, b".".to_vec()), four),
+        (Reading::KthName(0, 1, vec![7; 33]), both),
+        (Reading::FreeCount, four),
+        (Reading::Listing, four),
     ] {
+        let kind = call.kind();
         let draw = move |name: &str, random: &mut Random| {
-            dot_names::reading(&call, standing, name, random)
+            let volume = volumes::with_names(standing, random);
+            reading::given(&call, &volume, Done, name)
         };
         all.push(Stratum::new(kind.told().0, Done, draw).with("dot names"));
     }

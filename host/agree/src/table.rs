@@ -53,13 +53,13 @@ impl fmt::Display for Table {
     fn fmt(&self, to: &mut fmt::Formatter<'_>) -> fmt::Result {
         let mut columns = vec![Outcome::Done, Outcome::Unchanged];
         columns.extend(Refusal::ALL.map(|refusal| Outcome::Refused(refusal.number())));
-        write!(to, "{:12}", "")?;
+        write!(to, "{:14}", "")?;
         for column in &columns {
             write!(to, "{column:>width$}", width = width(*column))?;
         }
         writeln!(to)?;
         for (call, row) in &self.calls {
-            write!(to, "{call:12}")?;
+            write!(to, "{call:14}")?;
             for column in &columns {
                 let count = row.iter().find(|pair| pair.0 == *column);
                 let count = count.map_or(".".to_string(), |pair| pair.1.to_string());

@@ -55,13 +55,13 @@ pub fn memory(volume: &[u8]) -> String {
     format!("λ w. getD (getD ({pages}[]) (w / 64) []) (w % 64) 0")
 }
 
-/// Names, each with its inode.
+/// Names, each with its inode, in brackets.
 pub fn names(pairs: &[(Vec<u8>, u64)]) -> String {
     let mut text = String::new();
     for (name, inode) in pairs {
         text += &format!("({}, {inode}) ∷ ", bytes(name));
     }
-    text + "[]"
+    format!("({text}[])")
 }
 
 /// An answer that is a number.
@@ -80,10 +80,29 @@ pub fn answered(answer: Result<String, Refusal>) -> String {
 /// A call, in brackets.
 pub fn call(call: &Call) -> String {
     let text = match call {
-        Call::Create { name } => format!("create {}", bytes(name)),
-        Call::Link { old, new } => format!("link {} {}", bytes(old), bytes(new)),
-        Call::Unlink { name } => format!("unlink {}", bytes(name)),
-        Call::Rename { old, new } => format!("rename {} {}", bytes(old), bytes(new)),
+        Call::Create { folder, name } => format!("create {folder} {}", bytes(name)),
+        Call::CreateFolder { folder, name } => format!("createFolder {folder} {}", bytes(name)),
+        Call::Link {
+            old_folder,
+            old,
+            new_folder,
+            new,
+        } => format!(
+            "link {old_folder} {} {new_folder} {}",
+            bytes(old),
+            bytes(new)
+        ),
+        Call::Unlink { folder, name } => format!("unlink {folder} {}", bytes(name)),
+        Call::Rename {
+            old_folder,
+            old,
+            new_folder,
+            new,
+        } => format!(
+            "rename {old_folder} {} {new_folder} {}",
+            bytes(old),
+            bytes(new)
+        ),
         Call::Write {
             inode,
             offset,

@@ -4,13 +4,14 @@
 //! They have 16 to 20 pages, so that an equation about one is computed in about a second; more where the
 //! outcome needs more.
 
+use crate::arguments::names;
 use crate::outcome::Outcome;
 use reference::layout::{set_word, word};
 use reference::{cut, format, free_count, groups, land, Call};
 use samples::{
     any_call, any_number, change_live_word, clean, create, entry_add, entry_remove, filled,
-    flip_live_bit, formatted, headed_noise, live_words, made_up_sized, map_of, put_log, random_cut,
-    rename, run, set_size, with_free_pages, write, FewFree, Random,
+    flip_live_bit, formatted, headed_noise, live_words, made_up_sized, map_of, put_folder, put_log,
+    random_cut, rename_in, run, set_size, with_free_pages, write, FewFree, Random, Tree,
 };
 
 /// A volume on which a call may well come to this.
@@ -171,8 +172,8 @@ pub fn unheaded(random: &mut Random) -> Vec<u8> {
     volume
 }
 
-/// A volume with hardly a free page left. Writes leave one; in every second volume the directory's
-/// log, which renames make longer, takes it.
+/// A volume with hardly a free page left. Writes leave one; in every second volume a folder's log,
+/// which renames make longer, takes it.
 pub fn crowded(random: &mut Random) -> Vec<u8> {
     let mut volume = used(random);
     let takes_last = random.once_in(2);
@@ -181,16 +182,16 @@ pub fn crowded(random: &mut Random) -> Vec<u8> {
             break;
         };
         let map = map_of(&volume);
-        let call = match random.choose(&map.names) {
-            Some((name, _)) if free == 1 && takes_last => {
-                rename(name, &[b'a' + random.below(26) as u8])
+        let call = match random.choose(&names(&map)) {
+            Some(&(folder, name, _)) if free == 1 && takes_last => {
+                rename_in(folder, name, folder, &[b'a' + random.below(26) as u8])
             }
-            Some(&(_, inode)) => {
+            Some(&(_, _, inode)) if !map.is_folder(inode) => {
                 let pages = random.between(1, free.min(4));
                 let bytes = vec![5; 512 * pages as usize];
                 write(inode, 512 * random.below(60), &bytes)
             }
-            None => create(b"a"),
+            _ => create(b"a"),
         };
         let _ = run(&mut volume, &call);
     }
@@ -236,6 +237,37 @@ pub fn with_names(names: &[&[u8]], random: &mut Random) -> Vec<u8> {
     volume
 }
 
+/// A volume with folders. In inode 0 stand the folders "f" (inode 1) and "e" (5), which has no names,
+/// and the file "a" (3); in "f" the folder "g" (2), the file "b" (4) and "l", which leads to the file 3
+/// as "a" does; in "g" the file "c" (6). Inode 7 is invalid. The sizes, the lengths of the logs and the
+/// journal's position are random.
+pub fn with_folders(random: &mut Random) -> Vec<u8> {
+    let mut tree = Tree::default();
+    let mut size = || random.below(3) * random.between(1, 900);
+    tree.folder(0, b"f", 1);
+    tree.file(0, b"a", 3, size());
+    tree.folder(0, b"e", 5);
+    tree.folder(1, b"g", 2);
+    tree.file(1, b"b", 4, size());
+    tree.name(1, b"l", 3);
+    tree.file(2, b"c", 6, size());
+    if random.once_in(2) {
+        tree.name(5, b"l", 3);
+        tree.remove(5, b"l");
+    }
+    for folder in 0..3 {
+        if random.once_in(2) {
+            tree.fill_up(folder, random.between(1, 7) as usize);
+        }
+    }
+    let mut volume = tree.volume(random.between(16, 18), 8);
+    let position = random.below(16);
+    for index in [8, 9] {
+        set_word(&mut volume, index, position);
+    }
+    volume
+}
+
 /// A volume whose free pages lie in pieces, so that a write may find no run. The file "a" has data pages; in every
 /// second volume there is "b" too, which has none. The last file's log gets entries, so that any number of slots may
 /// be left in the tail's page; the log of "b" may stay empty.
@@ -271,19 +303,22 @@ fn pieces(random: &mut Random) -> Vec<bool> {
     free
 }
 
-/// A volume with 224 names of one file, the least that takes them: they stand in 32 log pages. The
-/// names have one byte, so that two of them are quickly told apart.
-fn full_directory(random: &mut Random) -> Vec<u8> {
-    let mut volume = formatted(34 + random.below(2), 8);
+/// A volume with 224 names in inode 0: one of the folder 2, in which "in" leads to the file 3, and 223
+/// of one file. It is the least that takes them: they stand in 32 log pages. The names have one byte, so that two
+/// of them are quickly told apart.
+pub fn full_directory(random: &mut Random) -> Vec<u8> {
+    let mut volume = formatted(35 + random.below(2), 8);
     let skipped = random.below(30) as usize;
-    let entries: Vec<[u64; 8]> = (1..=255)
-        .filter(|&byte| byte != b'/')
-        .skip(skipped)
-        .take(224)
-        .map(|byte| entry_add(1, &[byte]))
+    let bytes = (1..=255).filter(|&byte| byte != b'/').skip(skipped);
+    let inodes = [2].into_iter().chain([1; 223]);
+    let entries: Vec<[u64; 8]> = bytes
+        .zip(inodes)
+        .map(|(byte, inode)| entry_add(inode, &[byte]))
         .collect();
     let pages: Vec<u64> = (2..34).collect();
     put_log(&mut volume, 0, &pages, &entries);
     put_log(&mut volume, 1, &[], &[]);
+    put_folder(&mut volume, 2, &[34], &[entry_add(3, b"in")]);
+    put_log(&mut volume, 3, &[], &[]);
     volume
 }

@@ -6,7 +6,7 @@
 //! let mut volume = vec![0; 16 * 512];
 //! let mut list = vec![0; LIST_WORDS];
 //! calls::format(&mut volume, 16, 8)?;
-//! let count = calls::create(&volume, b"A1", &mut list)?;
+//! let count = calls::create(&volume, 0, b"A1", &mut list)?;
 //! calls::carry_out(&mut volume, &list, count)?;
 //!
 //! let tail = word_offset(66) as usize;
@@ -22,8 +22,8 @@ pub const PAGE_BYTES: u64 = 512;
 pub const PAGE_LIMIT: u64 = 4_096;
 /// A volume has at most 2,097,152 bytes.
 pub const VOLUME_LIMIT: u64 = PAGE_LIMIT * PAGE_BYTES;
-/// Inode 0 is the directory.
-pub const DIRECTORY: u64 = 0;
+/// Inode 0 is the folder that every volume has.
+pub const ROOT: u64 = 0;
 /// A file's size is at most 65,536 bytes.
 pub const SIZE_LIMIT: u64 = 65_536;
 /// One write has at most 4,096 bytes.

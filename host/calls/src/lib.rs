@@ -23,10 +23,10 @@
 //! format(&mut volume, 16, 8)?;
 //! assert_eq!(free_count(&volume)?, 14);
 //!
-//! let count = create(&volume, b"A1", &mut list)?;
-//! assert_eq!(find(&volume, b"A1"), Err(Refusal::NotThere));
+//! let count = create(&volume, 0, b"A1", &mut list)?;
+//! assert_eq!(find(&volume, 0, b"A1"), Err(Refusal::NotThere));
 //! carry_out(&mut volume, &list, count)?;
-//! let inode = find(&volume, b"A1")?;
+//! let inode = find(&volume, 0, b"A1")?;
 //!
 //! let count = write(&volume, inode, 510, b"text", &mut list)?;
 //! carry_out(&mut volume, &list, count)?;
@@ -38,7 +38,7 @@
 //! assert_eq!(&buffer, b"\0textytes");
 //!
 //! let mut name = [7; 33];
-//! assert_eq!(kth_name(&volume, 0, &mut name)?, 2);
+//! assert_eq!(kth_name(&volume, 0, 0, &mut name)?, 2);
 //! assert_eq!(&name[..3], b"A1\0");
 //! assert_eq!(name[32], 7);
 //! # Ok::<(), Refusal>(())
@@ -51,7 +51,7 @@ pub mod list;
 
 mod changing;
 
-pub use changing::{clean, create, link, recover, rename, set_size, unlink, write};
+pub use changing::{clean, create, create_folder, link, recover, rename, set_size, unlink, write};
 pub use refusal::{Answer, Refusal};
 
 /// Format, carry out and the reading calls of libhost_calls.a. A slice is a pointer and a length; the answer is
@@ -66,7 +66,13 @@ mod exports {
             list_len: usize,
             count: u64,
         ) -> i64;
-        pub fn volume_find(volume: *const u8, len: usize, name: *const u8, name_len: usize) -> i64;
+        pub fn volume_find(
+            volume: *const u8,
+            len: usize,
+            folder: u64,
+            name: *const u8,
+            name_len: usize,
+        ) -> i64;
         pub fn volume_size(volume: *const u8, len: usize, inode: u64) -> i64;
         pub fn volume_read(
             volume: *const u8,
@@ -79,10 +85,12 @@ mod exports {
         pub fn volume_kth_name(
             volume: *const u8,
             len: usize,
+            folder: u64,
             k: u64,
             buffer: *mut u8,
             buffer_len: usize,
         ) -> i64;
+        pub fn volume_total(volume: *const u8, len: usize, folder: u64) -> i64;
         pub fn volume_free_count(volume: *const u8, len: usize) -> i64;
         pub fn volume_gaps(volume: *const u8, len: usize, pairs: *mut u64, pairs_len: usize)
             -> i64;
@@ -154,32 +162,39 @@ pub fn carry_out(volume: &mut [u8], list: &[u64], count: u64) -> Result<(), Refu
     answer(code).map(|_| ())
 }
 
-/// Find: answers the inode that a name leads to.
+/// Find: answers the inode that a name leads to in a folder.
 ///
-/// The refusals are 2 ([`Refusal::NoVolume`]), 3 ([`Refusal::Damaged`]), 4 ([`Refusal::JournalOpen`]), 5
-/// ([`Refusal::BadName`]) and 6 ([`Refusal::NotThere`]).
+/// Inode 0 is the folder that every volume has. The refusals are 2 ([`Refusal::NoVolume`]), 3
+/// ([`Refusal::Damaged`]), 4 ([`Refusal::JournalOpen`]), 5 ([`Refusal::BadName`]), 6
+/// ([`Refusal::NotThere`], the folder, or the name in it) and 16 ([`Refusal::WrongType`], the folder is a file).
 ///
 /// ```
 /// use calls::{find, format, Refusal};
 ///
 /// let mut volume = vec![0; 16 * 512];
-/// assert_eq!(find(&volume, b"A1"), Err(Refusal::NoVolume));
+/// assert_eq!(find(&volume, 0, b"A1"), Err(Refusal::NoVolume));
 /// format(&mut volume, 16, 8)?;
-/// assert_eq!(find(&volume, b"A1"), Err(Refusal::NotThere));
-/// assert_eq!(find(&volume, b"A/1"), Err(Refusal::BadName));
+/// assert_eq!(find(&volume, 0, b"A1"), Err(Refusal::NotThere));
+/// assert_eq!(find(&volume, 0, b"A/1"), Err(Refusal::BadName));
 /// # Ok::<(), Refusal>(())
 /// ```
-pub fn find(volume: &[u8], name: &[u8]) -> Answer {
+pub fn find(volume: &[u8], folder: u64, name: &[u8]) -> Answer {
     // SAFETY: the pointers and the lengths are those of slices that are lent for the call.
     answer(unsafe {
-        exports::volume_find(volume.as_ptr(), volume.len(), name.as_ptr(), name.len())
+        exports::volume_find(
+            volume.as_ptr(),
+            volume.len(),
+            folder,
+            name.as_ptr(),
+            name.len(),
+        )
     })
 }
 
 /// Size: answers a file's size in bytes.
 ///
-/// The refusals are 2 ([`Refusal::NoVolume`]), 3 ([`Refusal::Damaged`]), 4 ([`Refusal::JournalOpen`]) and
-/// 6 ([`Refusal::NotThere`]), which inode 0, the directory, gets too.
+/// The refusals are 2 ([`Refusal::NoVolume`]), 3 ([`Refusal::Damaged`]), 4 ([`Refusal::JournalOpen`]), 6
+/// ([`Refusal::NotThere`]), which inode 0 gets too, and 16 ([`Refusal::WrongType`], another folder).
 ///
 /// ```
 /// use calls::{format, size, Refusal};
@@ -198,8 +213,8 @@ pub fn size(volume: &[u8], inode: u64) -> Answer {
 /// buffer takes; answers how many.
 ///
 /// The rest of the buffer keeps its bytes. At or past the file's end the answer is 0. The refusals are 2
-/// ([`Refusal::NoVolume`]), 3 ([`Refusal::Damaged`]), 4 ([`Refusal::JournalOpen`]) and 6
-/// ([`Refusal::NotThere`]).
+/// ([`Refusal::NoVolume`]), 3 ([`Refusal::Damaged`]), 4 ([`Refusal::JournalOpen`]), 6
+/// ([`Refusal::NotThere`]) and 16 ([`Refusal::WrongType`], a folder).
 ///
 /// ```
 /// use calls::{format, read, Refusal};
@@ -225,33 +240,63 @@ pub fn read(volume: &[u8], inode: u64, offset: u64, buffer: &mut [u8]) -> Answer
     })
 }
 
-/// K-th name (k from 0): writes the name and zeros after it into the first 32 bytes of the buffer; answers
+/// K-th name of a folder (k from 0): writes the name and zeros after it into the first 32 bytes of the buffer; answers
 /// the name's length.
 ///
 /// Bytes past 32 stay. The refusals are 1 ([`Refusal::ShortMemory`], a buffer under 32 bytes), 2
-/// ([`Refusal::NoVolume`]), 3 ([`Refusal::Damaged`]), 4 ([`Refusal::JournalOpen`]) and 6
-/// ([`Refusal::NotThere`], k too large).
+/// ([`Refusal::NoVolume`]), 3 ([`Refusal::Damaged`]), 4 ([`Refusal::JournalOpen`]), 6
+/// ([`Refusal::NotThere`], the folder, or k too large) and 16 ([`Refusal::WrongType`], the folder is a file).
 ///
 /// ```
 /// use calls::{format, kth_name, Refusal};
 ///
 /// let mut volume = vec![0; 16 * 512];
 /// format(&mut volume, 16, 8)?;
-/// assert_eq!(kth_name(&volume, 0, &mut [0; 31]), Err(Refusal::ShortMemory));
-/// assert_eq!(kth_name(&volume, 0, &mut [0; 32]), Err(Refusal::NotThere));
+/// assert_eq!(kth_name(&volume, 0, 0, &mut [0; 31]), Err(Refusal::ShortMemory));
+/// assert_eq!(kth_name(&volume, 0, 0, &mut [0; 32]), Err(Refusal::NotThere));
 /// # Ok::<(), Refusal>(())
 /// ```
-pub fn kth_name(volume: &[u8], k: u64, buffer: &mut [u8]) -> Answer {
+pub fn kth_name(volume: &[u8], folder: u64, k: u64, buffer: &mut [u8]) -> Answer {
     // SAFETY: the pointers and the lengths are those of slices that are lent for the call.
     answer(unsafe {
         exports::volume_kth_name(
             volume.as_ptr(),
             volume.len(),
+            folder,
             k,
             buffer.as_mut_ptr(),
             buffer.len(),
         )
     })
+}
+
+/// Total: answers the bytes beneath a folder, the sum over its names.
+///
+/// A file counts its size once for each name, and a folder what lies beneath it. The refusals are 2
+/// ([`Refusal::NoVolume`]), 3 ([`Refusal::Damaged`]), 4 ([`Refusal::JournalOpen`]), 6
+/// ([`Refusal::NotThere`]) and 16 ([`Refusal::WrongType`], a file). Its stack grows with the depth of the
+/// folders: see docs/TRUST.md.
+///
+/// ```
+/// use calls::{carry_out, create, format, link, total, write, Refusal};
+///
+/// let mut volume = vec![0; 16 * 512];
+/// let mut list = vec![0; 4_096];
+/// format(&mut volume, 16, 8)?;
+/// assert_eq!(total(&volume, 0), Ok(0));
+/// let count = create(&volume, 0, b"A1", &mut list)?;
+/// carry_out(&mut volume, &list, count)?;
+/// let count = write(&volume, 1, 510, b"text", &mut list)?;
+/// carry_out(&mut volume, &list, count)?;
+/// let count = link(&volume, 0, b"A1", 0, b"A2", &mut list)?;
+/// carry_out(&mut volume, &list, count)?;
+/// assert_eq!(total(&volume, 0), Ok(1_028));
+/// assert_eq!(total(&volume, 1), Err(Refusal::WrongType));
+/// # Ok::<(), Refusal>(())
+/// ```
+pub fn total(volume: &[u8], folder: u64) -> Answer {
+    // SAFETY: the pointer and the length are those of a slice that is lent for the call.
+    answer(unsafe { exports::volume_total(volume.as_ptr(), volume.len(), folder) })
 }
 
 /// Count of free pages.
@@ -293,7 +338,7 @@ pub fn free_count(volume: &[u8]) -> Answer {
 /// assert_eq!(pairs, [2, 14, 7, 7, 7, 7]);
 ///
 /// let mut list = vec![0; 4_096];
-/// let count = create(&volume, b"A1", &mut list)?;
+/// let count = create(&volume, 0, b"A1", &mut list)?;
 /// carry_out(&mut volume, &list, count)?;
 /// let count = clean(&volume, 0, &mut list)?; // the directory's log goes from page 2 to page 3
 /// carry_out(&mut volume, &list, count)?;

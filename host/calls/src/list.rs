@@ -7,11 +7,11 @@
 //! let mut volume = vec![0; 16 * 512];
 //! let mut list = vec![0; LIST_WORDS];
 //! calls::format(&mut volume, 16, 8)?;
-//! let count = calls::create(&volume, b"A1", &mut list)?;
+//! let count = calls::create(&volume, 0, b"A1", &mut list)?;
 //!
 //! // The preparation; the enqueue position; the two targets; the dequeue position.
 //! let groups = groups(&list[..count as usize]);
-//! assert_eq!(groups.iter().map(Vec::len).collect::<Vec<_>>(), [15, 1, 2, 1]);
+//! assert_eq!(groups.iter().map(Vec::len).collect::<Vec<_>>(), [16, 1, 2, 1]);
 //! assert_eq!(groups[2], [(66, 1_088), (72, 1)]);
 //! # Ok::<(), calls::Refusal>(())
 //! ```

@@ -10,9 +10,9 @@ use compiled::fill;
 use reference::layout::set_word;
 use reference::{groups, judge, land, map_after, Call, FileMap, Store};
 use samples::{
-    any_call, appended_entries, clean, create, formatted, give_name, in_pieces, link, map_of,
-    marked_list, numbered, random_cut, rename, sample, set_size, text, unlink, write, Random,
-    DOT_NAMES,
+    any_call, any_call_in_folders, appended_entries, clean, create, create_folder, formatted,
+    give_name, in_pieces, link, map_of, marked_list, numbered, random_cut, rename, rename_in,
+    sample, set_size, text, unlink, write, Move, Random, DOT_NAMES,
 };
 
 /// The most stores of a group of which every set is tried.
@@ -191,6 +191,7 @@ fn each_call() {
         }
         for call in [
             create(b"C3"),
+            create_folder(0, b"C3"),
             link(b"B2", b"C3"),
             unlink(b"A1"),
             unlink(b"B2"),
@@ -214,6 +215,78 @@ fn each_call() {
     assert!(counts.before > 4_000 && counts.after > 50, "{counts:?}");
     assert!(counts.open > 100 && counts.recoveries > 500, "{counts:?}");
     assert!(counts.whole > 100 && counts.went_on > 500, "{counts:?}");
+}
+
+/// Moves between folders: each count of new log pages, two and three targets, from journal positions whose pairs go around
+/// the end. Whatever has landed, the moved name stands in exactly one of the two folders; while the journal is open and
+/// once it is recovered, in the old one.
+#[test]
+fn moves() {
+    let mut random = Random::new(106);
+    let mut counts = Counts::default();
+    let mut explored = 0;
+    for (source, target, position) in [
+        (3, 3, 12),
+        (7, 3, 13),
+        (3, 7, 14),
+        (3, 0, 15),
+        (7, 7, 14),
+        (7, 0, 13),
+        (6, 6, 15),
+        (7, 7, 15),
+    ] {
+        let made = Move {
+            source,
+            target,
+            free: 2,
+            position,
+        };
+        let volume = made.volume(&mut random);
+        let held = if target == 0 { 0 } else { 2 };
+        let news: [(u64, &[u8]); 5] = [
+            (2, b"new"),
+            (held, b"gone"),
+            (held, b"kept"),
+            (0, b"kept too"),
+            (0, b"new"),
+        ];
+        for old in [&b"a"[..], b"b", b"sub", b"full"] {
+            for (folder, new) in news {
+                let call = rename_in(1, old, folder, new);
+                if filled(&volume, &call).is_none() {
+                    continue; // a folder onto a name, or no page
+                }
+                explored += 1;
+                explore(&mut random, &volume, &call, &mut counts);
+                stands_once(&mut random, &volume, (1, old), (folder, new));
+            }
+        }
+    }
+    assert!(explored > 60, "{explored}");
+    assert!(counts.before > 20_000 && counts.after > 60, "{counts:?}");
+    assert!(counts.open > 500 && counts.recoveries > 4_000, "{counts:?}");
+    assert!(counts.whole > 100 && counts.went_on > 500, "{counts:?}");
+}
+
+/// A name in a folder.
+type Place<'a> = (u64, &'a [u8]);
+
+/// Cuts a move in every group, and asks the compiled calls where the moved name stands.
+fn stands_once(random: &mut Random, volume: &[u8], old: Place<'_>, new: Place<'_>) {
+    let list = filled(volume, &rename_in(old.0, old.1, new.0, new.1)).expect("the move is done");
+    let moved = calls::find(volume, old.0, old.1).expect("the old name stands");
+    let mut places = [0, 0];
+    each_cut(random, volume, &list, SMALL, |_, broken| {
+        let recovery = filled(broken, &Call::Recover).expect("a cut volume is accepted");
+        let mut closed = broken.to_vec();
+        land(&mut closed, &recovery);
+        let stands =
+            [old, new].map(|(folder, name)| calls::find(&closed, folder, name) == Ok(moved));
+        assert_ne!(stands[0], stands[1], "in exactly one folder");
+        assert!(recovery.is_empty() || stands[0], "recover gives it back");
+        places[usize::from(stands[1])] += 1;
+    });
+    assert!(places[0] > 100 && places[1] > 0, "{places:?}");
 }
 
 /// Calls that take the names "." and ".." away or keep them, on volumes that hold these.
@@ -272,6 +345,28 @@ fn random_calls() {
         counts.whole > 1_000 && counts.went_on > 10_000,
         "{counts:?}"
     );
+}
+
+/// Random calls about folders on small volumes, each explored before it lands.
+#[test]
+fn random_calls_in_folders() {
+    let mut random = Random::new(107);
+    let mut counts = Counts::default();
+    for _ in 0..30 {
+        let mut volume = formatted(random.between(20, 40), 16);
+        for _ in 0..40 {
+            let call = any_call_in_folders(&mut random, 16, &map_of(&volume));
+            explore(&mut random, &volume, &call, &mut counts);
+            let list = filled(&volume, &call).unwrap_or_default();
+            land(&mut volume, &list);
+        }
+    }
+    assert!(counts.before > 100_000 && counts.after > 500, "{counts:?}");
+    assert!(
+        counts.open > 2_000 && counts.recoveries > 10_000,
+        "{counts:?}"
+    );
+    assert!(counts.whole > 1_000 && counts.went_on > 5_000, "{counts:?}");
 }
 
 /// A directory of 224 names cleaned: the longest list, 32 pages of entries in one group.

@@ -17,7 +17,7 @@ pub struct Arguments {
 impl Arguments {
     /// Sorts what stands after a command's name.
     ///
-    /// An option is `--name`, or `--name VALUE` or `--name=VALUE` if it takes a value. `-` alone is plain, and so is
+    /// An option is `--name` or `-n`, or `--name VALUE` or `--name=VALUE` if it takes a value. `-` alone is plain, and so is
     /// all after `--`. An option that the command does not have, one given twice, one without its value, and too
     /// few or too many plain arguments are [`Failure::Use`].
     pub fn sort(command: &Command, rest: Vec<OsString>) -> Result<Arguments, Failure> {

@@ -48,6 +48,15 @@ pub enum Failure {
 }
 
 impl Failure {
+    /// The failure of a command that was refused, with this advice.
+    pub fn refused(what: &str, refusal: Refusal, advice: String) -> Failure {
+        Failure::Refused {
+            what: what.to_owned(),
+            refusal,
+            advice,
+        }
+    }
+
     /// The exit status of a command that ends so.
     pub fn status(&self) -> u8 {
         match self {
@@ -128,6 +137,11 @@ pub fn advice(refusal: Refusal, volume: &str) -> String {
             format!("224 names stand already; remove some with 'office rm {volume} NAME'")
         }
         Refusal::NoSpace | Refusal::LastPage => make_room(volume),
+        Refusal::WrongType => "a folder, where a file is wanted".into(),
+        Refusal::NotEmpty => {
+            format!("names stand in it; 'office rm -r {volume} PATH' removes it with them")
+        }
+        Refusal::IntoItself => "no folder can go into itself or a folder beneath it".into(),
         Refusal::ShortMemory | Refusal::LongWrite | Refusal::BadList | Refusal::TooManyGaps => {
             "the tool asked wrongly; nothing was stored".into()
         }

@@ -1,6 +1,7 @@
 //! Files of the host: those that are put, and those that are written.
 
 use crate::failure::Failure;
+use crate::path::VolumePath;
 use crate::text::{shown_path, thousands};
 use calls::layout::SIZE_LIMIT;
 use std::ffi::{OsStr, OsString};
@@ -10,12 +11,12 @@ use std::os::unix::ffi::OsStrExt;
 use std::os::unix::fs::MetadataExt;
 use std::path::{Path, PathBuf};
 
-/// A file to be put into a volume.
+/// A file or a folder to be put into a volume.
 #[derive(Debug)]
 pub struct Source {
-    /// The name that it gets in the volume.
-    pub name: Vec<u8>,
-    /// Its size in bytes.
+    /// The path that it gets in the volume, without the folder that everything is put into.
+    pub path: VolumePath,
+    /// A file's size in bytes; of a folder 0.
     pub size: u64,
     origin: Origin,
 }
@@ -25,6 +26,8 @@ pub struct Source {
 enum Origin {
     /// In a file of the host.
     Path(PathBuf),
+    /// There are none: it is a folder of the host.
+    Folder(PathBuf),
     /// Here, as standard input gave them.
     Input(Vec<u8>),
 }
@@ -33,17 +36,23 @@ impl Source {
     /// The source as a screen can show it: its path, or "standard input".
     pub fn shown(&self) -> String {
         match &self.origin {
-            Origin::Path(path) => shown_path(path),
+            Origin::Path(path) | Origin::Folder(path) => shown_path(path),
             Origin::Input(_) => "standard input".into(),
         }
     }
 
-    /// The source's bytes.
+    /// Whether it is a folder.
+    pub fn is_folder(&self) -> bool {
+        matches!(self.origin, Origin::Folder(_))
+    }
+
+    /// The source's bytes; a folder has none.
     ///
     /// A file that can no longer be read, or has grown over 65,536 bytes, is [`Failure::Host`].
     pub fn read(&self) -> Result<Vec<u8>, Failure> {
         let bytes = match &self.origin {
             Origin::Input(bytes) => return Ok(bytes.clone()),
+            Origin::Folder(_) => return Ok(Vec::new()),
             Origin::Path(path) => File::open(path).and_then(read_limited),
         };
         let bytes = bytes.map_err(|error| self.failed(&error.to_string()))?;
@@ -86,7 +95,7 @@ fn names_in(folder: &Path) -> io::Result<Vec<OsString>> {
 fn size_of_file(path: &Path) -> Result<u64, String> {
     let about = path.metadata().map_err(|error| error.to_string())?;
     if about.is_dir() {
-        return Err("a folder inside a folder".into());
+        return Err("a symbolic link to a folder".into());
     }
     if !about.is_file() {
         return Err("no regular file".into());
@@ -105,72 +114,84 @@ fn input() -> Result<Vec<u8>, String> {
 /// The sources that paths lead to, and what is wrong with some.
 #[derive(Debug, Default)]
 pub struct Sources {
-    /// The files, in the order in which they are put.
-    pub files: Vec<Source>,
+    /// The files and folders, in the order in which they are put: a folder before what is in it.
+    pub all: Vec<Source>,
     /// A line for each path that cannot be put.
     pub problems: Vec<String>,
 }
 
 impl Sources {
-    /// The files of these paths: each a file, or a folder, whose files come in byte order of their names.
+    /// The sources of these paths: each a file, or a folder, of which all that is in it comes in byte order of the names.
     pub fn of_paths<'p>(paths: impl IntoIterator<Item = &'p OsStr>) -> Sources {
         let mut sources = Sources::default();
         for path in paths.into_iter().map(Path::new) {
             if path.is_dir() {
-                sources.add_folder(path);
+                sources.add_within(path, &VolumePath::root());
             } else {
-                sources.add_file(path, path.file_name().unwrap_or_default());
+                let name = path.file_name().unwrap_or_default();
+                sources.add_file(path, VolumePath::of(name.as_bytes()));
             }
         }
         sources
     }
 
-    /// One file under a name of its own; `-` is standard input.
-    pub fn of_one(path: &OsStr, name: &OsStr) -> Sources {
+    /// One file under a path of its own; `-` is standard input.
+    pub fn of_one(path: &OsStr, new: VolumePath) -> Sources {
         let mut sources = Sources::default();
         if path == "-" {
-            sources.add_input(name);
+            sources.add_input(new);
         } else {
-            sources.add_file(Path::new(path), name);
+            sources.add_file(Path::new(path), new);
         }
         sources
     }
 
-    fn add_folder(&mut self, folder: &Path) {
-        match names_in(folder) {
-            Ok(names) => {
-                for name in names {
-                    self.add_file(&folder.join(&name), &name);
-                }
+    /// Adds all that is in a folder of the host, which gets this path. Symbolic links to folders are not followed, so
+    /// that this ends.
+    fn add_within(&mut self, folder: &Path, new: &VolumePath) {
+        let names = match names_in(folder) {
+            Ok(names) => names,
+            Err(error) => return self.problem(folder, &error.to_string()),
+        };
+        for name in names {
+            let (path, new) = (folder.join(&name), new.join(name.as_bytes()));
+            if path.is_dir() && !path.is_symlink() {
+                self.add(Origin::Folder(path.clone()), new.clone(), 0);
+                self.add_within(&path, &new);
+            } else {
+                self.add_file(&path, new);
             }
-            Err(error) => self.problem(folder, &error.to_string()),
         }
     }
 
-    fn add_file(&mut self, path: &Path, name: &OsStr) {
+    fn add_file(&mut self, path: &Path, new: VolumePath) {
         match size_of_file(path) {
-            Ok(size) => self.add(Origin::Path(path.to_path_buf()), name, size),
+            Ok(size) => self.add(Origin::Path(path.to_path_buf()), new, size),
             Err(problem) => self.problem(path, &problem),
         }
     }
 
-    fn add_input(&mut self, name: &OsStr) {
+    fn add_input(&mut self, new: VolumePath) {
         match input() {
             Ok(bytes) => {
                 let size = bytes.len() as u64;
-                self.add(Origin::Input(bytes), name, size);
+                self.add(Origin::Input(bytes), new, size);
             }
             Err(problem) => self.problem("standard input", &problem),
         }
     }
 
-    fn add(&mut self, origin: Origin, name: &OsStr, size: u64) {
-        let name = name.as_bytes().to_vec();
-        let source = Source { name, size, origin };
-        let earlier = self.files.iter().find(|file| file.name == source.name);
-        match earlier.map(Source::shown) {
-            Some(earlier) => self.problem(source.shown(), &format!("has the name of {earlier}")),
-            None => self.files.push(source),
+    /// Adds a source, unless there is one of its path already. Two folders of one path are one.
+    fn add(&mut self, origin: Origin, path: VolumePath, size: u64) {
+        let source = Source { path, size, origin };
+        let earlier = self.all.iter().find(|earlier| earlier.path == source.path);
+        match earlier {
+            Some(earlier) if earlier.is_folder() && source.is_folder() => {}
+            Some(earlier) => {
+                let what = format!("has the name of {}", earlier.shown());
+                self.problem(source.shown(), &what);
+            }
+            None => self.all.push(source),
         }
     }
 
@@ -200,6 +221,12 @@ pub fn in_the_way(path: &Path, force: bool, volume: &Path) -> Option<String> {
         Ok(_) if !force => Some(format!("{shown}: exists; --force replaces it")),
         _ => None,
     }
+}
+
+/// What stands in the way of a folder of the host that is to be there; none if nothing does.
+pub fn folder_in_the_way(path: &Path) -> Option<String> {
+    let other = path.metadata().is_ok_and(|about| !about.is_dir());
+    other.then(|| format!("{}: a file is in the way", shown_path(path)))
 }
 
 /// Whether what is known of a file is known of the one at this path.

@@ -29,7 +29,7 @@ pub struct Command {
 /// An option of a command.
 #[derive(Debug)]
 pub struct Choice {
-    /// Its name, with the two dashes.
+    /// Its name, with its dashes.
     pub name: &'static str,
     /// What its value is called; none if it takes none.
     pub value: Option<&'static str>,
@@ -68,7 +68,9 @@ pub fn overview(commands: &[Command]) -> String {
     text.push_str(
         "\nOptions may stand anywhere after the command; -- ends them. 'office help COMMAND' says\n\
          more about a command. Commands that change a volume take --cut GROUP, a rehearsal of a\n\
-         battery swap: the power is cut in that group of stores.\n\n",
+         battery swap: the power is cut in that group of stores.\n\n\
+         A path inside a volume is names with / between them; / alone is the root. It means the\n\
+         same with a / at its start or without; one that ends in / must lead to a folder.\n\n",
     );
     text.push_str(EXIT);
     text

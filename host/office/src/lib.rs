@@ -13,14 +13,16 @@
 //! Only [`show`], which stores nothing, reads through the reference model.
 //!
 //! The modules, top-down: [`commands`] (what each command does), [`room`] (pages kept free, and logs cleaned to make
-//! room), [`store`] (the volume in its file), [`disk`] (words stored in a file), [`show`] (what a volume looks like),
-//! [`files`] (files of the host), [`arguments`], [`help`], [`failure`], [`progress`] and [`text`].
+//! room), [`path`] (paths inside a volume), [`store`] (the volume in its file), [`disk`] (words stored in a file),
+//! [`show`] (what a volume looks like), [`files`] (files of the host), [`arguments`], [`help`], [`failure`],
+//! [`progress`] and [`text`].
 //!
 //! # Example
 //!
 //! A plan asks for several changes on a copy; the file is written only when all of them are granted.
 //!
 //! ```
+//! use calls::layout::ROOT;
 //! use office::store::{Mode, Store};
 //!
 //! let folder = std::env::temp_dir().join(format!("office-doc-{}", std::process::id()));
@@ -32,7 +34,7 @@
 //!
 //! let mut store = Store::open(&path, Mode::Change { cut: None }).expect("a free file");
 //! let mut plan = store.plan();
-//! plan.call(|volume, list| calls::create(volume, b"A1", list)).expect("room for it");
+//! plan.call(|volume, list| calls::create(volume, ROOT, b"A1", list)).expect("room for it");
 //! plan.call(|volume, list| calls::write(volume, 1, 0, b"text", list)).expect("room for it");
 //! store.carry_out(plan, |_| {}).expect("the file is written");
 //!
@@ -50,6 +52,7 @@ pub mod disk;
 pub mod failure;
 pub mod files;
 pub mod help;
+pub mod path;
 pub mod progress;
 pub mod room;
 pub mod show;

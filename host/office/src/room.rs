@@ -5,9 +5,10 @@
 //! would write it.
 
 use crate::failure::{Failure, Outcome};
-use crate::store::{names_of, Plan, Store};
+use crate::path::{all_names, is_folder, Standing};
+use crate::store::{Plan, Store};
 use crate::text::{complain, shown_name};
-use calls::layout::{DIRECTORY, LIST_WORDS, PAGE_BYTES, PAGE_LIMIT, WORD_BYTES};
+use calls::layout::{LIST_WORDS, PAGE_BYTES, PAGE_LIMIT, ROOT, WORD_BYTES};
 use calls::list::groups;
 use refusal::{Answer, Refusal};
 use std::cmp::Reverse;
@@ -15,9 +16,9 @@ use std::collections::BTreeSet;
 use std::iter;
 
 /// A volume has at most 256 inodes; the calls refuse those that it does not have.
-const INODES: u64 = 256;
-/// The most pages that are ever kept: 32 for the adds of 224 names, 19 for the writes of 128
-/// pieces.
+pub const INODES: u64 = 256;
+/// The most pages that are ever kept: 32 for the adds of a folder's 224 names, 19 for the writes of
+/// 128 pieces.
 const MOST_KEPT: u64 = 32 + 19;
 
 /// A change that needs room.
@@ -25,6 +26,8 @@ const MOST_KEPT: u64 = 32 + 19;
 pub struct Change<'c> {
     /// What it is about, as a refusal says it.
     pub what: &'c str,
+    /// The folders whose logs it lengthens; the root where it lengthens none.
+    pub folders: &'c [u64],
     /// The file whose log it lengthens, if it does that.
     pub file: Option<u64>,
     /// What it does about the pages that are kept.
@@ -99,13 +102,12 @@ fn clean(plan: &mut Plan, inode: u64) -> bool {
     words.is_ok_and(|words| words > 0)
 }
 
-/// A log in words: the directory's, or that of a file, by its first name.
+/// A log in words: the root's, or that of a file or a folder, by its first path.
 fn in_words(volume: &[u8], inode: u64) -> String {
-    let names = names_of(volume).unwrap_or_default();
-    let mut names = names.iter();
-    match names.find(|name| calls::find(volume, name) == Ok(inode)) {
-        Some(name) => format!("the log of {}", shown_name(name)),
-        None => "the directory's log".into(),
+    let names = all_names(volume).unwrap_or_default();
+    match names.iter().find(|name| name.inode == inode) {
+        Some(name) => format!("the log of {}", shown_name(&name.marked())),
+        None => "the root's log".into(),
     }
 }
 
@@ -129,9 +131,9 @@ pub fn planned(
     ask: impl Fn(&mut Plan) -> Outcome,
 ) -> Result<Planned, Failure> {
     let tried = |mut planned: Planned, keeping: bool| -> Result<Planned, Failure> {
-        let before = free(&planned.plan);
+        let (before, changes) = (free(&planned.plan), planned.plan.changes());
         ask(&mut planned.plan)?;
-        if keeping {
+        if keeping && planned.plan.changes() > changes {
             check_kept(store, change, before, &planned.plan)?;
         }
         Ok(planned)
@@ -141,10 +143,10 @@ pub fn planned(
         Err(failure) if failure.is_for_room() => failure,
         ended => return ended,
     };
-    let files = files_to_clean(store, change.file);
-    let mut granted = cleaned(store, &files).find_map(|start| tried(start, true).ok());
+    let others = others_to_clean(store, change);
+    let mut granted = cleaned(store, change, &others).find_map(|start| tried(start, true).ok());
     if granted.is_none() && change.keeping == Keeping::IfPossible {
-        let starts = iter::once(plain()).chain(cleaned(store, &files));
+        let starts = iter::once(plain()).chain(cleaned(store, change, &others));
         let done = starts.filter_map(|start| tried(start, false).ok());
         // Of those that leave most the first, which cleans least.
         granted = done.min_by_key(|planned| Reverse(free(&planned.plan)));
@@ -152,43 +154,49 @@ pub fn planned(
     granted.ok_or(failure)
 }
 
-/// Plans that clean logs, in the order in which they are tried: the directory's; one file's; the
-/// directory's and more and more files'.
-fn cleaned<'f>(store: &Store, files: &'f [u64]) -> impl Iterator<Item = Planned> + 'f {
-    let directory = Planned::cleaning(store, &[DIRECTORY]);
-    let file = files.first();
-    let file = file.map(|&file| Planned::cleaning(store, &[file]));
-    let mut grown = directory.clone();
-    let more = files.iter().map(move |&file| {
-        // What the file's log gives back may be what the directory's needs.
-        grown.clean(&[file, DIRECTORY]);
+/// Plans that clean logs, in the order in which they are tried: those of the change's folders; one
+/// other; the folders' and more and more others.
+fn cleaned<'f>(
+    store: &Store,
+    change: &'f Change,
+    others: &'f [u64],
+) -> impl Iterator<Item = Planned> + 'f {
+    let folders = Planned::cleaning(store, change.folders);
+    let other = others.first();
+    let other = other.map(|&inode| Planned::cleaning(store, &[inode]));
+    let mut grown = folders.clone();
+    let more = others.iter().map(move |&inode| {
+        // What this log gives back may be what the folders' need.
+        grown.clean(&[inode]);
+        grown.clean(change.folders);
         grown.clone()
     });
-    iter::once(directory).chain(file).chain(more)
+    iter::once(folders).chain(other).chain(more)
 }
 
-/// The files whose logs may make room: the one whose log is lengthened, and those that give pages
-/// back.
-fn files_to_clean(store: &Store, file: Option<u64>) -> Vec<u64> {
-    let others = giving_back(store).filter(|&inode| Some(inode) != file);
-    file.into_iter().chain(others).collect()
+/// The logs besides those of the change's folders that may make room: the one of the file that it
+/// lengthens, and those that give pages back.
+fn others_to_clean(store: &Store, change: &Change) -> Vec<u64> {
+    let others = giving_back(store, change.folders);
+    let others = others.filter(|&inode| Some(inode) != change.file);
+    change.file.into_iter().chain(others).collect()
 }
 
-/// The files whose logs give pages back, once the directory's is cleaned, those that give most
-/// first.
-fn giving_back(store: &Store) -> impl Iterator<Item = u64> {
-    let plan = Planned::cleaning(store, &[DIRECTORY]).plan;
-    let mut files = Vec::new();
-    for inode in DIRECTORY + 1..INODES {
+/// The inodes whose logs give pages back, once those of these folders are cleaned, those that give
+/// most first.
+fn giving_back(store: &Store, folders: &[u64]) -> impl Iterator<Item = u64> {
+    let plan = Planned::cleaning(store, folders).plan;
+    let mut logs = Vec::new();
+    for inode in (ROOT..INODES).filter(|inode| !folders.contains(inode)) {
         let mut cleaned = plan.clone();
         clean(&mut cleaned, inode);
         let gain = free(&cleaned).saturating_sub(free(&plan));
         if gain > 0 {
-            files.push((Reverse(gain), inode));
+            logs.push((Reverse(gain), inode));
         }
     }
-    files.sort();
-    files.into_iter().map(|(_, inode)| inode)
+    logs.sort();
+    logs.into_iter().map(|(_, inode)| inode)
 }
 
 /// The free pages that a plan leaves.
@@ -217,13 +225,13 @@ fn check_kept(store: &Store, change: &Change, before: u64, plan: &Plan) -> Outco
     })
 }
 
-/// The free pages that a volume keeps: as many as the directory's log takes once it is cleaned, and
-/// as many as the longest of the files' logs, at least one. Where they are not free, the answer may
-/// be too low, but is more than are free.
+/// The free pages that a volume keeps: as many as the longest of the folders' logs takes once it is
+/// cleaned, and as many as the longest of the files' logs, at least one. Where they are not free,
+/// the answer may be too low, but is more than are free.
 ///
 /// The two are added, since a cleaned file's log may be longer than the old one. With one page more
-/// than the directory's log takes, names can be removed and renamed for ever: the log can always be
-/// cleaned.
+/// than a folder's log takes, names in it can be removed and renamed for ever: the log can always
+/// be cleaned.
 ///
 /// ```
 /// let mut volume = vec![0; 16 * 512];
@@ -231,17 +239,21 @@ fn check_kept(store: &Store, change: &Change, before: u64, plan: &Plan) -> Outco
 /// assert_eq!(office::room::kept(&volume), Ok(1));
 ///
 /// let mut list = vec![0; 4_096];
-/// let count = calls::create(&volume, b"A1", &mut list)?;
+/// let count = calls::create(&volume, 0, b"A1", &mut list)?;
 /// calls::carry_out(&mut volume, &list, count)?;
 /// assert_eq!(office::room::kept(&volume), Ok(2));
 /// # Ok::<(), calls::Refusal>(())
 /// ```
 pub fn kept(volume: &[u8]) -> Answer {
-    let mut longest = 1;
-    for inode in DIRECTORY + 1..INODES {
-        longest = longest.max(cleaned_pages(volume, inode)?);
+    let [mut folder, mut file] = [0, 1];
+    for inode in ROOT..INODES {
+        let longest = match is_folder(volume, inode) {
+            true => &mut folder,
+            false => &mut file,
+        };
+        *longest = cleaned_pages(volume, inode)?.max(*longest);
     }
-    Ok(cleaned_pages(volume, DIRECTORY)? + longest)
+    Ok(folder + file)
 }
 
 /// The pages that a log takes once it is cleaned; where they are not free, one more than are.
@@ -264,20 +276,23 @@ fn cleaned_pages(volume: &[u8], inode: u64) -> Answer {
 
 /// Whether nothing makes room any more: names stand, and no name can be removed and no log cleaned
 /// for want of a page.
-///
-/// One name speaks for all, since the entry that removes it is as long as any.
 pub fn is_stuck(volume: &[u8]) -> bool {
     if calls::free_count(volume) != Ok(0) {
         return false;
     }
     let mut list = vec![0; LIST_WORDS];
-    let names = names_of(volume).unwrap_or_default();
-    let unlinked = |name: &Vec<u8>| calls::unlink(volume, name, &mut list);
-    names.first().map(unlinked) == Some(Err(Refusal::NoSpace))
-        && (DIRECTORY..INODES).all(|inode| {
-            let cleaned = calls::clean(volume, inode, &mut list);
-            matches!(cleaned, Ok(0) | Err(Refusal::NoSpace | Refusal::NotThere))
-        })
+    let names = all_names(volume).unwrap_or_default();
+    let mut stays = |name: &Standing| {
+        let unlinked = calls::unlink(volume, name.folder, name.path.last(), &mut list);
+        matches!(unlinked, Err(Refusal::NoSpace | Refusal::NotEmpty))
+    };
+    if names.is_empty() || !names.iter().all(&mut stays) {
+        return false;
+    }
+    (ROOT..INODES).all(|inode| {
+        let cleaned = calls::clean(volume, inode, &mut list);
+        matches!(cleaned, Ok(0) | Err(Refusal::NoSpace | Refusal::NotThere))
+    })
 }
 
 /// What to do about a volume on which nothing makes room; `typed` is its path as typed.
@@ -291,18 +306,18 @@ pub fn way_out(volume: &[u8], typed: &str) -> String {
     )
 }
 
-/// The pages and inodes of a volume into which the files of all names can be put, if there is one.
+/// The pages and inodes of a volume into which the files of all names and the folders can be put, if
+/// there is one.
 fn sizes_for_all(volume: &[u8]) -> (u64, u64) {
-    let names = names_of(volume).unwrap_or_default();
-    let size = |name: &Vec<u8>| {
-        let inode = calls::find(volume, name)?;
-        calls::size(volume, inode)
-    };
-    let sizes = names.iter().map(|name| size(name).unwrap_or(0));
-    // A put takes at most three log pages for a file, and less than one of the directory's.
-    let files: u64 = sizes.map(|size| size.div_ceil(PAGE_BYTES) + 4).sum();
-    let inodes = (names.len() as u64 + 2).next_multiple_of(8);
+    let names = all_names(volume).unwrap_or_default();
+    // A put takes at most three log pages for a file, one for a folder, and for each of them less
+    // than one of the log in which it has its name.
+    let taken = names.iter().map(|name| match name.is_folder {
+        true => 2,
+        false => calls::size(volume, name.inode).map_or(0, |size| size.div_ceil(PAGE_BYTES)) + 4,
+    });
+    let inodes = (names.len() as u64 + 2).next_multiple_of(8).min(INODES);
     let twice = 2 * volume.len() as u64 / PAGE_BYTES;
-    let pages = (inodes / 8 + files + 8).next_multiple_of(16);
+    let pages = (inodes / 8 + taken.sum::<u64>() + 8).next_multiple_of(16);
     (pages.max(twice).min(PAGE_LIMIT), inodes)
 }

@@ -3,8 +3,9 @@
 use crate::disk::{land_group, write_stores, Disk};
 use crate::failure::{advice, Failure, Outcome};
 use crate::files::{is_file_of, stands_for_folder};
+use crate::path::{Lost, VolumePath};
 use crate::room::{is_stuck, way_out};
-use crate::text::{complain, shown_path, typed_path};
+use crate::text::{complain, shown_name, shown_path, typed_path};
 use calls::layout::{LIST_WORDS, NAME_BYTES, VOLUME_LIMIT};
 use calls::list::{groups, Store as WordStore};
 use refusal::{Answer, Refusal};
@@ -123,19 +124,44 @@ impl Store {
         }
     }
 
-    /// The failure of a command whose call was to give a file the name `new` and was refused (see
+    /// The failure of a command that looked for a path: which name of it is not there, or leads to a file where a
+    /// folder is wanted.
+    pub fn lost(&self, path: &VolumePath, lost: Lost) -> Failure {
+        let (what, refusal) = (path.shown(), lost.refusal);
+        let start = path.start(lost.found);
+        let advice = match refusal {
+            Refusal::NotThere if path.names().len() > 1 => {
+                let name = shown_name(&path.names()[lost.found]);
+                format!(
+                    "no name {name} in {}; {}",
+                    start.shown(),
+                    self.lists(&start)
+                )
+            }
+            Refusal::WrongType => format!("{} is a file, not a folder", start.shown()),
+            _ => return self.refused(&what, refusal),
+        };
+        Failure::refused(&what, refusal, advice)
+    }
+
+    /// The advice to list the names of a folder.
+    pub fn lists(&self, folder: &VolumePath) -> String {
+        let volume = self.typed();
+        match folder.is_root() {
+            true => format!("'office ls {volume}' lists the names"),
+            false => format!("'office ls {volume} {}' lists the names", folder.typed()),
+        }
+    }
+
+    /// The failure of a command whose call was to give a file or a folder the name `new` and was refused (see
     /// [`Store::refused`]).
     pub fn refused_new(&self, what: &str, new: &[u8], refusal: Refusal) -> Failure {
         if refusal != Refusal::BadName || !stands_for_folder(new) {
             return self.refused(what, refusal);
         }
-        Failure::Refused {
-            what: what.to_owned(),
-            refusal,
-            advice: "\".\" and \"..\" stand for a folder and the one above it, \
-                     and no file can get such a name"
-                .into(),
-        }
+        let advice = "\".\" and \"..\" stand for a folder and the one above it, \
+                      and no file can get such a name";
+        Failure::refused(what, refusal, advice.into())
     }
 
     /// The failure of a command whose call about the volume as a whole was refused.
@@ -257,14 +283,19 @@ impl Plan {
     pub fn volume(&self) -> &[u8] {
         &self.volume
     }
+
+    /// How many of the calls so far change something.
+    pub fn changes(&self) -> usize {
+        self.lists.len()
+    }
 }
 
-/// The names of a volume, in list order.
-pub fn names_of(volume: &[u8]) -> Result<Vec<Vec<u8>>, Refusal> {
+/// The names in a folder, in list order.
+pub fn names_of(volume: &[u8], folder: u64) -> Result<Vec<Vec<u8>>, Refusal> {
     let mut names = Vec::new();
     loop {
         let mut name = vec![0; NAME_BYTES];
-        match calls::kth_name(volume, names.len() as u64, &mut name) {
+        match calls::kth_name(volume, folder, names.len() as u64, &mut name) {
             Ok(length) => name.truncate(length as usize),
             Err(Refusal::NotThere) => return Ok(names),
             Err(refusal) => return Err(refusal),

@@ -2,8 +2,9 @@
 
 mod tool;
 
+use calls::layout::ROOT;
 use office::commands::PART;
-use reference::layout::{tail_word, word, DIRECTORY};
+use reference::layout::{tail_word, word};
 use reference::listing;
 use samples::{
     create, done, formatted, map_of, rename, set_size, text, unlink, volumes_with_gaps,
@@ -181,8 +182,8 @@ page 49, entry 5: write: file pages 8-9 on data pages 54-55, size 5000
     folder.says(&["log", "v", "d"], text);
 }
 
-/// 23 pages are free, and ten more once the directory's log is cleaned: 26 for the data, two for the
-/// file's log, one for the directory's, and four are kept. One byte more needs another page.
+/// 23 pages are free, and ten more once the root's log is cleaned: 26 for the data, two for the
+/// file's log, one for the root's, and four are kept. One byte more needs another page.
 #[test]
 fn put_fills_every_gap_or_stores_nothing() {
     let folder = Folder::with_scattered_gaps("put-fills");
@@ -196,7 +197,7 @@ fn put_fills_every_gap_or_stores_nothing() {
     folder.says_cleaned(
         &["put", "v", "large"],
         "1 file put, 13,312 bytes; 4 pages free\n",
-        "the directory's log",
+        "the root's log",
     );
     folder.says(
         &["check", "v"],
@@ -218,7 +219,7 @@ fn put_removes_the_part_of_a_killed_put() {
     let cut = folder.office(&["put", "v", "c", "--cut", "6"]);
     assert_eq!(cut.status, 4);
     let left = folder.map();
-    assert_eq!(left.inode_of(PART), Some(3));
+    assert_eq!(left.inode_of(ROOT, PART), Some(3));
     assert_eq!(left.files[&3], text(4_096));
     let line = "accepted: 3 names, 46 free pages, journal closed\n\
                 .office-part: left by a killed put; the next put or 'office recover v' removes it\n";
@@ -401,16 +402,13 @@ fn clean() {
         &["clean", "v", "b", "a"],
         "free pages: 55 before, 57 after\n",
     );
-    folder.says(
-        &["clean", "v", "--directory"],
-        "free pages: 57 before, 57 after\n",
-    );
+    folder.says(&["clean", "v", "/"], "free pages: 57 before, 57 after\n");
     assert_eq!(folder.map(), map_of(&volume));
     folder.write("v", &volume);
     folder.says(&["clean", "v"], "free pages: 53 before, 57 after\n");
     assert_eq!(folder.map(), map_of(&volume));
-    let tail = word(&folder.read("v"), tail_word(DIRECTORY));
-    assert_eq!(tail % 512, 2 * 64, "the directory's log has two entries");
+    let tail = word(&folder.read("v"), tail_word(ROOT));
+    assert_eq!(tail % 512, 2 * 64, "the root's log has two entries");
 }
 
 #[test]
@@ -425,8 +423,8 @@ fn clean_skips_where_there_is_no_room() {
     }
     folder.write("v", &volume);
     let ran = folder.office(&["clean", "v"]);
-    let lines = "office: inode 0: skipped, no room for its new log: refused 12 (no space)\n\
-                 office: inode 1: skipped, no room for its new log: refused 12 (no space)\n";
+    let lines = "office: /: skipped, no room for its new log: refused 12 (no space)\n\
+                 office: a: skipped, no room for its new log: refused 12 (no space)\n";
     assert_eq!((ran.status, ran.err.as_str()), (1, lines));
     assert_eq!(ran.out, b"free pages: 0 before, 0 after\n");
     assert!(folder.read("v") == volume);
@@ -447,12 +445,7 @@ fn recover() {
     );
     folder.write("c", b"");
     assert_eq!(folder.office(&["put", "v", "c", "--cut", "5"]).status, 4);
-    assert_eq!(
-        folder
-            .office(&["clean", "v", "--directory", "--cut", "2"])
-            .status,
-        4
-    );
+    assert_eq!(folder.office(&["clean", "v", "/", "--cut", "2"]).status, 4);
     let both = "journal closed: 2 words put back\n.office-part removed: a killed put left it\n";
     folder.says(&["recover", "v"], both);
     assert_eq!(folder.map(), files(&[("a", 1, b"")]));

@@ -3,7 +3,7 @@
 
 mod tool;
 
-use calls::layout::DIRECTORY;
+use calls::layout::ROOT;
 use samples::{create, done, formatted, give_name, link, map_of, numbered, write};
 use std::{fs, io};
 use tool::{each_fails, files, Folder};
@@ -123,13 +123,21 @@ fn no_file_can_get_one_that_stands() {
 #[test]
 fn other_refusals_are_said_as_before() {
     let folder = with_names("dots-others", &["a", "."]);
+    let long = "n".repeat(33);
     let bad = "refused 5 (bad name); a name has 1 to 32 bytes, none of them 0 or '/'";
     let taken = "refused 7 (taken); take another name, or 'office rm v NAME' first";
     let gone = "refused 6 (not there); 'office ls v' lists the names";
     let cases: &[(&[&str], &str)] = &[
-        (&["mv", "v", ".", "./a"], &format!(". to ./a: {bad}")),
-        (&["ln", "v", ".", ""], &format!(". to : {bad}")),
-        (&["put", "v", "new", "--as", "x/."], &format!("x/.: {bad}")),
+        (
+            &["mv", "v", ".", "./a"],
+            "./a: refused 16 (wrong type); . is a file, not a folder",
+        ),
+        (&["mv", "v", ".", &long], &format!(". to {long}: {bad}")),
+        (&["ln", "v", ".", ""], &format!(". to .: {NO_FILE}")),
+        (
+            &["put", "v", "new", "--as", "x/."],
+            &format!("x/.: {NO_FILE}"),
+        ),
         (&["ln", "v", ".", "a"], &format!(". to a: {taken}")),
         (&["mv", "v", "..", "a"], &format!(".. to a: {gone}")),
         (&["get", "v", ".."], &format!("..: {gone}")),
@@ -166,8 +174,8 @@ fn names_that_only_begin_with_dots() {
     assert_eq!(folder.map(), all);
     folder.says(&["get", "v", "--all", "all"], "5 files copied, 33 bytes\n");
     assert_eq!(folder.names("all"), [". ", "...", "..b", ".a", ".b"]);
-    for (name, _) in all.names {
-        let name = String::from_utf8(name).expect("text");
+    for (name, _) in all.names(ROOT) {
+        let name = String::from_utf8(name.clone()).expect("text");
         folder.done(&["get", "v", &name]);
         assert_eq!(folder.read(&name), folder.read(format!("all/{name}")));
     }
@@ -234,7 +242,7 @@ fn every_file_is_copied_back() {
     follow(&folder, &left_out_both(), &["dot", "dots"]);
     let both = [("dot", "."), ("dots", "..")];
     check_copied(&folder, "all", &[others.as_slice(), &both].concat());
-    assert_eq!(folder.names("all").len(), map_of(&volume).names.len());
+    assert_eq!(folder.names("all").len(), map_of(&volume).names(ROOT).len());
     assert!(folder.read("v") == volume, "the volume is as it was");
 }
 
@@ -408,10 +416,7 @@ fn what_stands_is_used_as_before() {
         &["check", "v"],
         "accepted: 3 names, 53 free pages, journal closed\n",
     );
-    for (command, inode) in [
-        (["log", "v"].as_slice(), DIRECTORY),
-        (&["log", "v", ".."], 3),
-    ] {
+    for (command, inode) in [(["log", "v"].as_slice(), ROOT), (&["log", "v", ".."], 3)] {
         let text = office::show::log_text(&volume, inode).expect("it stands");
         assert!(text.contains("\"..\""), "{text}");
         folder.says(command, &text);
@@ -470,12 +475,18 @@ fn the_help_says_so() {
         let text = String::from_utf8(text).expect("text").replace('\n', " ");
         assert!(text.contains(part), "{text}");
     };
-    says("put", "No file can get the name \".\" or \"..\".");
-    says("mv", "NEW cannot be \".\" or \"..\", but OLD can.");
-    says("ln", "NEW must not stand, and cannot be \".\" or \"..\".");
-    let copied = "The host cannot have a file named \".\" or \"..\": such a file is copied only to a \
-                  DEST that is no folder. --all copies the others, says which it left out and how to \
-                  get them, and the exit status is then 3.";
+    says(
+        "put",
+        "No file and no folder can get the name \".\" or \"..\".",
+    );
+    says("mv", "NEW cannot be named \".\" or \"..\", but OLD can.");
+    says(
+        "ln",
+        "The new name must not stand, and cannot be \".\" or \"..\".",
+    );
+    let copied = "The host cannot have a file or a folder named \".\" or \"..\": one of the volume is \
+                  copied only to a DEST that names it. The copy of the folder that it is in has the \
+                  others, says what it left out and how to get it, and the exit status is then 3.";
     says("get", copied);
     let overview = String::from_utf8(folder.done(&["--help"])).expect("text");
     assert!(overview.contains("cannot be put or cannot be made"));

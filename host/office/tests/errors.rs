@@ -25,10 +25,9 @@ fn refused_by_the_volume() {
     let bad = "refused 5 (bad name); a name has 1 to 32 bytes, none of them 0 or '/'";
     let gone = "refused 6 (not there); 'office ls v' lists the names";
     let cases: &[(&[&str], &str)] = &[
-        (&["put", "v", "b", "--as", "x/y"], &format!("x/y: {bad}")),
-        (&["put", "v", "b", "--as", ""], &format!(": {bad}")),
+        (&["put", "v", "b", "--as", &long], &format!("{long}: {bad}")),
         (&["mv", "v", "a", &long], &format!("a to {long}: {bad}")),
-        (&["cat", "v", "x/y"], &format!("x/y: {bad}")),
+        (&["cat", "v", &long], &format!("{long}: {bad}")),
         (&["cat", "v", "z"], &format!("z: {gone}")),
         (&["get", "v", "z"], &format!("z: {gone}")),
         (&["get", "v", "z", "-"], &format!("z: {gone}")),
@@ -136,7 +135,7 @@ fn refused_volumes() {
         &["rm", "v", "a"],
         &["truncate", "v", "a", "1"],
         &["clean", "v"],
-        &["clean", "v", "--directory"],
+        &["clean", "v", "/"],
     ];
     for (volume, refused) in kinds {
         folder.write("v", &volume);
@@ -184,7 +183,7 @@ fn wrong_use() {
         (&["--nothing"], "there is no command --nothing"),
         (&["help", "nothing"], "there is no command nothing"),
         (&["ls"], "ls: VOLUME is missing"),
-        (&["ls", "v", "w"], "ls: too many arguments"),
+        (&["ls", "v", "w", "x"], "ls: too many arguments"),
         (&["gaps"], "gaps: VOLUME is missing"),
         (&["gaps", "v", "w"], "gaps: too many arguments"),
         (
@@ -199,7 +198,7 @@ fn wrong_use() {
             &["format", "v", "--cut", "1"],
             "format: option --cut is unknown",
         ),
-        (&["rm", "v", "-r", "a"], "rm: option -r is unknown"),
+        (&["rm", "v", "-f", "a"], "rm: option -f is unknown"),
         (
             &["rm", "v", "a", "--cut"],
             "rm: option --cut needs a value, GROUP",
@@ -227,6 +226,10 @@ fn wrong_use() {
             "put: --as names one file",
         ),
         (
+            &["put", "v", "a", "--as", ""],
+            "put: --as names one file, no folder",
+        ),
+        (
             &["put", "v", ".", "--as", "c"],
             "put: --as names one file, no folder",
         ),
@@ -242,15 +245,15 @@ fn wrong_use() {
             &["ln", "v", "a", ".office-part"],
             ".office-part: put keeps this name for itself",
         ),
-        (&["get", "v"], "get: NAME or --all FOLDER is missing"),
+        (&["get", "v"], "get: PATH or --all FOLDER is missing"),
         (
             &["get", "v", "a", "--all", "all"],
-            "get: --all takes no NAME",
+            "get: --all takes no PATH",
         ),
         (&["truncate", "v", "a", "many"], "SIZE: many is no number"),
         (
             &["log", "v", "a", "--inode", "1"],
-            "log: NAME and --inode name two logs",
+            "log: PATH and --inode name two logs",
         ),
     ];
     for (command, line) in cases {
@@ -313,7 +316,6 @@ fn sources_that_cannot_be_put() {
     let ran = folder.office(&["put", "v", "b", "a", "day", "gone", "/dev/null"]);
     let lines = format!(
         "office: day/a: has the name of a\n\
-         office: day/inner: a folder inside a folder\n\
          office: day/large: over 65,536 bytes, more than a file of a volume can have\n\
          office: gone: No such file or directory (os error 2)\n\
          office: /dev/null: no regular file\n\
@@ -342,7 +344,7 @@ fn a_folder_in_the_way() {
     folder.fails(
         &["get", "v", "--all", "a"],
         3,
-        "office: a: File exists (os error 17)\n",
+        "office: a: a file is in the way\noffice: get: nothing was copied\n",
     );
 }
 
@@ -484,18 +486,20 @@ Example:
 fn one_command_of_help() {
     let folder = Folder::new("help-rm");
     let text = "\
-office rm VOLUME NAME.. [--cut GROUP]
+office rm VOLUME PATH.. [-r] [--cut GROUP]
 
-Removes each NAME; a file left without a name goes. If one of them is refused,
-none is removed. A power cut leaves the first ones removed. Where there is no
-room, rm cleans logs first, if that helps, and says which.
+Removes each PATH; a file left without a name goes. A folder is removed only with
+-r, with all that is in it. If one of them is refused, none is removed. A power cut
+leaves the first ones removed. Where there is no room, rm cleans logs first, if
+that helps, and says which.
 
 Options:
+  -r              remove folders too, with all that is in them, from the leaves up
   --cut GROUP     rehearse a battery swap: of this group of stores (from 1) every other one
                   is written, and the command ends there, with exit status 4
 
 Example:
-  office rm day.vol cancelled.txt
+  office rm day.vol north/cancelled.txt
 ";
     folder.says(&["rm", "--help"], text);
     folder.fails(

@@ -2,6 +2,7 @@
 
 mod tool;
 
+use calls::layout::ROOT;
 use reference::random::Random;
 use samples::map_of;
 use tool::Folder;
@@ -49,7 +50,7 @@ fn a_folder_comes_back_as_it_went() {
 
     let map = map_of(&folder.read("v"));
     let standing: Vec<String> = map
-        .names
+        .names(ROOT)
         .iter()
         .map(|(name, _)| String::from_utf8_lossy(name).into_owned())
         .collect();

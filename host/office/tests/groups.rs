@@ -3,10 +3,14 @@
 
 mod tool;
 
+use calls::layout::ROOT;
 use office::commands::PART;
 use reference::layout::set_word;
 use reference::{groups, judge, land, Call, FileMap, Store};
-use samples::{clean, create, done, filled, link, map_of, rename, set_size, text, unlink, write};
+use samples::{
+    clean, create, create_folder, create_in, done, filled, link, link_in, map_of, rename,
+    rename_in, set_size, text, unlink, unlink_in, write,
+};
 use tool::{calls_of_put, maps_of_calls, without_part, Folder};
 
 /// "a" has two pages and a cut in size, "b" one byte, "c" two names, "e" is empty.
@@ -55,17 +59,15 @@ fn cut_everywhere(folder: &Folder, volume: &[u8], command: &[&str], calls: &[Cal
         let ahead = maps[reached..].iter().position(|passed| *passed == map);
         reached += ahead.unwrap_or_else(|| panic!("{command:?} cut in {number}: {map:?}"));
         counts.cut += 1;
-        counts.parts += usize::from(map.inode_of(PART).is_some());
+        let mut names = map.folders.values().flatten();
+        counts.parts += usize::from(names.any(|(name, _)| name == PART));
         counts.open += usize::from(judged.journal.is_open());
         recovered(folder, &map);
     }
     folder.write("v", volume);
     let (status, said) = cut(folder, command, groups.len() + 1);
     let line = format!("no cut: the command had only {} groups", groups.len());
-    let said = said.replace(
-        "office: room was made by cleaning the directory's log\n",
-        "",
-    );
+    let said = said.replace("office: room was made by cleaning the root's log\n", "");
     assert_eq!(
         (status, said),
         (0, format!("office: {line}\n")),
@@ -162,9 +164,78 @@ fn clean_all() {
     let calls = [clean(0), clean(1), clean(2), clean(3)];
     let all = explore("cut-clean", &["clean", "v"], &calls);
     assert_eq!(all, counts(4 * 4, 8, 0));
-    let two = ["clean", "v", "c", "--directory"];
+    let two = ["clean", "v", "c", "/"];
     let two = explore("cut-clean-two", &two, &[clean(0), clean(3)]);
     assert_eq!(two, counts(8, 4, 0));
+}
+
+/// [`used`] with the folders "f" (inode 5) and "f/g" (6), and the file "f/x" (7) of one byte.
+fn with_folders() -> Vec<u8> {
+    let mut volume = used();
+    let calls = [
+        create_folder(ROOT, b"f"),
+        create_folder(5, b"g"),
+        create_in(5, b"x"),
+        write(7, 0, b"!"),
+    ];
+    for call in calls {
+        done(&mut volume, &call);
+    }
+    volume
+}
+
+/// Cuts a command of these calls on [`with_folders`] in each of its groups.
+fn explore_folders(test: &str, command: &[&str], calls: &[Call]) -> Counts {
+    let folder = Folder::new(test);
+    cut_everywhere(&folder, &with_folders(), command, calls)
+}
+
+#[test]
+fn folders() {
+    let calls = [create_folder(ROOT, b"h"), create_folder(8, b"i")];
+    let made = explore_folders("cut-mkdir", &["mkdir", "v", "-p", "h/i"], &calls);
+    assert_eq!(made, counts(8, 4, 0));
+    let gone = explore_folders("cut-rmdir", &["rmdir", "v", "f/g"], &[unlink_in(5, b"g")]);
+    assert_eq!(gone, counts(4, 2, 0));
+    let calls = [unlink_in(5, b"x"), unlink_in(5, b"g"), unlink(b"f")];
+    let whole = explore_folders("cut-rm-r", &["rm", "v", "-r", "f"], &calls);
+    assert_eq!(whole, counts(12, 6, 0));
+}
+
+/// A move is always through the journal; one over a file has a third target.
+#[test]
+fn moves() {
+    let moved = [rename_in(5, b"x", 6, b"x")];
+    let moved = explore_folders("cut-move", &["mv", "v", "f/x", "f/g"], &moved);
+    assert_eq!(moved, counts(4, 2, 0));
+    let over = [rename_in(ROOT, b"b", 5, b"x")];
+    let over = explore_folders("cut-move-over", &["mv", "v", "b", "f/x"], &over);
+    assert_eq!(over, counts(4, 2, 0));
+    let folder = [rename_in(5, b"g", ROOT, b"g")];
+    let folder = explore_folders("cut-move-folder", &["mv", "v", "f/g", "/"], &folder);
+    assert_eq!(folder, counts(4, 2, 0));
+    let linked = [link_in(ROOT, b"a", 6, b"a")];
+    let linked = explore_folders("cut-ln-folder", &["ln", "v", "a", "f/g/"], &linked);
+    assert_eq!(linked, counts(2, 0, 0));
+}
+
+/// A file is put in its folder: the part stands there until it is renamed.
+#[test]
+fn put_into_a_folder() {
+    let folder = Folder::new("cut-put-folder");
+    folder.write("y", &text(600));
+    let calls = [
+        create_folder(6, b"h"),
+        create_in(8, PART),
+        write(9, 0, &text(600)),
+        rename_in(8, PART, 8, b"y"),
+    ];
+    let command = ["put", "v", "y", "--to", "f/g/h"];
+    let counts = cut_everywhere(&folder, &with_folders(), &command, &calls);
+    assert_eq!(
+        (counts.cut, counts.open, counts.parts),
+        (4 + 4 + 2 + 2, 4, 4)
+    );
 }
 
 #[test]
@@ -216,12 +287,12 @@ fn cut_put(folder: &Folder, volume: &[u8], name: &str, size: usize) -> Counts {
 /// Of a put that passes through a map, all other files are as before and the one put is old or new.
 fn old_or_new(before: &FileMap, map: &FileMap, put: &[u8], new: &[u8]) {
     let bytes_of = |map: &FileMap, name: &[u8]| {
-        let inode = map.inode_of(name);
+        let inode = map.inode_of(ROOT, name);
         inode.and_then(|inode| map.files.get(&inode).cloned())
     };
     let others = |map: &FileMap| -> Vec<(Vec<u8>, u64)> {
         let other = |name: &[u8]| name != put && name != PART;
-        let mut names = map.names.clone();
+        let mut names = map.names(ROOT).to_vec();
         names.retain(|(name, _)| other(name));
         names
     };

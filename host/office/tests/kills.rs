@@ -6,14 +6,14 @@
 
 mod tool;
 
+use calls::layout::ROOT;
 use office::commands::PART;
 use reference::random::Random;
 use reference::{judge, Call, FileMap};
 use samples::{clean, done, link, map_of, rename, set_size, unlink};
 use std::fs;
-use std::os::unix::process::ExitStatusExt;
 use std::time::{Duration, Instant};
-use tool::{calls_of_put, maps_of_calls, with_long_logs, without_part, Folder};
+use tool::{calls_of_put, maps_of_calls, run_killed, with_long_logs, without_part, Folder};
 
 /// How many commands are killed, besides the recoveries.
 const ROUNDS: u64 = 400;
@@ -107,25 +107,6 @@ fn usual_time(folder: &Folder, random: &mut Random, kind: &str) -> Duration {
     all / 4
 }
 
-/// Starts a command and kills it at a random moment, up to a bit more than the usual time after the start; answers
-/// whether that came before its end.
-fn run_killed(folder: &Folder, random: &mut Random, arguments: &[String], usual: Duration) -> bool {
-    let most = usual.as_micros() as u64 * 11 / 10;
-    let wait = Duration::from_micros(random.below(most));
-    let mut child = folder.start(arguments);
-    let start = Instant::now();
-    while start.elapsed() < wait {
-        std::hint::spin_loop();
-    }
-    child.kill().expect("the child is ours");
-    let status = child.wait().expect("the child is ours");
-    match status.code() {
-        Some(code) => assert!(code < 2, "exit status {code}"),
-        None => assert_eq!(status.signal(), Some(9)),
-    }
-    status.code().is_none()
-}
-
 /// The map that a command left must be one that it passes through, and the last if it was not killed.
 fn check_map(folder: &Folder, planned: &Planned, killed: bool, counts: &mut Counts) -> FileMap {
     let volume = folder.read("v");
@@ -143,7 +124,7 @@ fn check_map(folder: &Folder, planned: &Planned, killed: bool, counts: &mut Coun
     } else {
         counts.open += u64::from(judged.journal.is_open());
     }
-    counts.parts += u64::from(map.inode_of(PART).is_some());
+    counts.parts += u64::from(map.inode_of(ROOT, PART).is_some());
     if maps.len() > 1 {
         let place = maps.iter().position(|passed| *passed == map);
         let place = place.unwrap_or_else(|| panic!("{arguments:?} killed: {map:?}"));
@@ -186,7 +167,7 @@ fn plan(folder: &Folder, random: &mut Random, kind: &str) -> Planned {
     let volume = folder.read("v");
     let map = map_of(&volume);
     let standing: Vec<String> = map
-        .names
+        .names(ROOT)
         .iter()
         .map(|(name, _)| String::from_utf8(name.clone()).expect("text"))
         .collect();
@@ -211,14 +192,14 @@ fn plan(folder: &Folder, random: &mut Random, kind: &str) -> Planned {
         ),
         "rm" => rm(&standing, random, &volume),
         "truncate" => {
-            let inode = map.inode_of(old.as_bytes()).expect("it stands");
+            let inode = map.inode_of(ROOT, old.as_bytes()).expect("it stands");
             let size = random.below(20_000);
             let arguments = ["truncate", "v", &old, &size.to_string()];
             calls(&arguments, &[set_size(inode, size)])
         }
         "clean" => {
             let arguments: &[&str] = match random.below(3) {
-                0 => &["clean", "v", "--directory"],
+                0 => &["clean", "v", "/"],
                 1 => &["clean", "v", &old],
                 _ => &["clean", "v"],
             };
@@ -290,7 +271,7 @@ fn recover_open(folder: &Folder, random: &mut Random, old: &str) -> Planned {
     }
 }
 
-/// A put that cleans the directory's log first leaves the old file or the new too, and all others.
+/// A put that cleans the root's log first leaves the old file or the new too, and all others.
 #[test]
 fn killed_puts_that_clean() {
     let folder = Folder::new("kills-cleaning");

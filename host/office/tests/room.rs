@@ -3,7 +3,7 @@
 
 mod tool;
 
-use calls::layout::{DIRECTORY, LIST_WORDS};
+use calls::layout::{LIST_WORDS, ROOT};
 use calls::Answer;
 use office::commands::PART;
 use office::room::{is_stuck, kept};
@@ -21,8 +21,9 @@ const ADVICE: &str = "cleaning logs gives back too little; \
 
 /// The names in the volume "v".
 fn names(folder: &Folder) -> Vec<String> {
-    let names = folder.map().names.into_iter();
-    let names = names.map(|(name, _)| String::from_utf8(name).expect("text"));
+    let map = folder.map();
+    let names = map.names(ROOT).iter();
+    let names = names.map(|(name, _)| String::from_utf8(name.clone()).expect("text"));
     names.collect()
 }
 
@@ -93,8 +94,8 @@ fn fill_and_empty(way: &str, sizes: &[(u64, u64)], size: fn(usize) -> usize) {
             }
         }
         let full = folder.map();
-        println!("{way}, {pages} pages: {} files", full.names.len());
-        assert!(full.names.len() > 1);
+        println!("{way}, {pages} pages: {} files", full.names(ROOT).len());
+        assert!(full.names(ROOT).len() > 1);
         folder.done(&["get", "v", "--all", "again"]);
         empties(&folder);
         succeeds(&folder, &["put", "v", "again"]);
@@ -104,7 +105,7 @@ fn fill_and_empty(way: &str, sizes: &[(u64, u64)], size: fn(usize) -> usize) {
 
 /// The names of a map, sorted, each with its bytes.
 fn bytes_by_name(map: &FileMap) -> Vec<(Vec<u8>, Vec<u8>)> {
-    let names = map.names.iter();
+    let names = map.names(ROOT).iter();
     let mut all: Vec<_> = names
         .map(|(name, inode)| (name.clone(), map.files[inode].clone()))
         .collect();
@@ -195,10 +196,10 @@ fn lengthened_and_shortened() {
     empties(&folder);
 }
 
-/// There is a way on: the directory's log can be cleaned.
+/// There is a way on: the root's log can be cleaned.
 fn check_way_on(folder: &Folder) {
     let mut list = vec![0; LIST_WORDS];
-    let cleaned = calls::clean(&folder.read("v"), DIRECTORY, &mut list);
+    let cleaned = calls::clean(&folder.read("v"), ROOT, &mut list);
     assert!(cleaned.is_ok(), "{cleaned:?}");
 }
 
@@ -239,7 +240,7 @@ fn as_many_free_as_can_be() {
         "accepted: 13 names, 2 free pages, journal closed\n",
     );
     let rm = ["rm", "v", "a", "b", "c", "d", "e", "f", "g", "h", "i"];
-    folder.says_cleaned(&rm, "", "the directory's log");
+    folder.says_cleaned(&rm, "", "the root's log");
     folder.says(
         &["check", "v"],
         "accepted: 4 names, 1 free page, journal closed\n",
@@ -292,7 +293,7 @@ fn any_command(folder: &Folder, random: &mut Random) -> Vec<String> {
     words.into_iter().map(str::to_owned).collect()
 }
 
-/// The pages that are kept, as the reference counts them: an add for each name, a write for each
+/// The pages that are kept, as the reference counts them: an add for each name of the folder with most, a write for each
 /// stretch of the file with most, seven to a page.
 #[test]
 fn kept_pages_beside_the_reference() {
@@ -307,15 +308,16 @@ fn kept_pages_beside_the_reference() {
             Ok(judged) if !judged.journal.is_open() => judged,
             _ => continue,
         };
-        let directory = (judged.names.len() as u64).div_ceil(7);
+        let names = judged.folders.values().map(Vec::len);
+        let folder = names.fold(0, usize::max).div_ceil(7) as u64;
         let file = judged.files.values().map(log_pages).fold(1, u64::max);
         let free = judged.free_pages();
         let kept = kept(&volume).expect("accepted");
-        if free >= directory.max(file) {
+        if free >= folder.max(file) {
             exact += 1;
-            assert_eq!(kept, directory + file);
+            assert_eq!(kept, folder + file);
         } else {
-            assert!(kept > free && kept <= directory + file);
+            assert!(kept > free && kept <= folder + file);
         }
     }
     assert!(exact >= 100, "{exact}");
@@ -332,10 +334,10 @@ fn log_pages(file: &File) -> u64 {
     (entries as u64).div_ceil(7)
 }
 
-/// Each command cleans the directory's log where that helps, and says so.
+/// Each command cleans the root's log where that helps, and says so.
 #[test]
-fn cleaning_the_directory_helps() {
-    let folder = Folder::new("helps-directory");
+fn cleaning_the_root_helps() {
+    let folder = Folder::new("helps-root");
     folder.write("b", &text(1_000));
     let put = "1 file put, 1,000 bytes; 8 pages free\n";
     let cases: [(&[&str], &str); 5] = [
@@ -347,14 +349,14 @@ fn cleaning_the_directory_helps() {
     ];
     for (command, out) in cases {
         folder.write("v", &with_long_logs(10, 1));
-        folder.says_cleaned(command, out, "the directory's log");
+        folder.says_cleaned(command, out, "the root's log");
         let volume = folder.read("v");
         let judged = judge(&volume).expect("accepted");
-        assert_eq!(judged.logs[&DIRECTORY].pages.len(), 1, "{command:?}");
+        assert_eq!(judged.logs[&ROOT].pages.len(), 1, "{command:?}");
     }
 }
 
-/// Where the directory's log gives nothing back, a file's does; where one is not enough, both do.
+/// Where the root's log gives nothing back, a file's does; where one is not enough, both do.
 #[test]
 fn cleaning_files_helps() {
     let folder = Folder::new("helps-files");
@@ -366,11 +368,12 @@ fn cleaning_files_helps() {
 
     let long = with_long_logs(6, 5);
     folder.write("v", &long);
-    let both = "the directory's log and the log of a";
+    let both = "the root's log and the log of a";
     let put = "1 file put, 3,000 bytes; 4 pages free\n";
     folder.says_cleaned(&["put", "v", "c"], put, both);
     let mut map = map_of(&long);
-    map.names.push((b"c".to_vec(), 3));
+    let names = map.folders.get_mut(&ROOT).expect("the root");
+    names.push((b"c".to_vec(), 3));
     map.files.insert(3, text(3_000));
     assert_eq!(folder.map(), map);
 
@@ -380,12 +383,12 @@ fn cleaning_files_helps() {
     let ran = folder.office(&["put", "v", "b", "c", "--progress"]);
     let lines = "\r0 of 2 files, 1,000 bytes\r1 of 2 files, 1,000 bytes\r1 of 2 files, 3,000 bytes\
                  \r2 of 2 files, 3,000 bytes\n\
-                 office: room was made by cleaning the directory's log and the log of a\n";
+                 office: room was made by cleaning the root's log and the log of a\n";
     assert_eq!((ran.status, ran.err.as_str()), (0, lines));
 }
 
 /// No page is free, but the log of "e" needs none once it is cleaned; the page that it gives back
-/// is the one that the directory's log needs.
+/// is the one that the root's log needs.
 #[test]
 fn cleaning_one_log_for_another() {
     let folder = Folder::new("helps-another");
@@ -397,11 +400,11 @@ fn cleaning_one_log_for_another() {
     }
     done(&mut volume, &link(b"b", b"c"));
     assert_eq!(judge(&volume).expect("accepted").free_pages(), 0);
-    check_no_space(|list| calls::unlink(&volume, b"c", list));
-    check_no_space(|list| calls::clean(&volume, DIRECTORY, list));
+    check_no_space(|list| calls::unlink(&volume, ROOT, b"c", list));
+    check_no_space(|list| calls::clean(&volume, ROOT, list));
     assert!(!is_stuck(&volume));
     folder.write("v", &volume);
-    let both = "the log of e and the directory's log";
+    let both = "the log of e and the root's log";
     folder.says_cleaned(&["rm", "v", "c"], "", both);
 
     folder.write("v", &volume);
@@ -423,7 +426,7 @@ fn cleaning_the_file_that_is_truncated() {
     assert_eq!(folder.map().files[&1], text(400));
 }
 
-/// What a killed put left is removed, with the directory's log cleaned first.
+/// What a killed put left is removed, with the root's log cleaned first.
 #[test]
 fn cleaning_for_the_part_of_a_killed_put() {
     let folder = Folder::new("helps-part");
@@ -437,7 +440,7 @@ fn cleaning_for_the_part_of_a_killed_put() {
     assert_eq!(judge(&volume).expect("accepted").free_pages(), 1);
     folder.write("v", &volume);
     let removed = ".office-part removed: a killed put left it\n";
-    folder.says_cleaned(&["recover", "v"], removed, "the directory's log");
+    folder.says_cleaned(&["recover", "v"], removed, "the root's log");
     assert_eq!(names(&folder), ["a", "b"]);
 }
 
@@ -447,8 +450,8 @@ fn refused_in_the_end() {
     let folder = Folder::new("helps-not");
     folder.write("large", &text(7_000));
     let line = format!("office: large: refused 12 (no space); {ADVICE}\n");
-    for (directory, file) in [(10, 1), (2, 9), (6, 5)] {
-        let volume = with_long_logs(directory, file);
+    for (root, file) in [(10, 1), (2, 9), (6, 5)] {
+        let volume = with_long_logs(root, file);
         folder.write("v", &volume);
         folder.fails(&["put", "v", "large"], 1, &line);
         assert!(folder.read("v") == volume);
@@ -537,7 +540,7 @@ fn replace(command: &mut [String], word: &str, with: &str) {
 }
 
 /// A volume of 16 pages and 8 inodes on which nothing makes room: no page is free, and the last
-/// pages of the directory's log and of the log of "a" are full. So many files stand, "a" has this
+/// pages of the root's log and of the log of "a" are full. So many files stand, "a" has this
 /// size on 11 pages and a second name, "z", and the others are empty.
 fn stuck(count: u8, size: u64) -> Vec<u8> {
     let mut volume = formatted(16, 8);
@@ -554,7 +557,12 @@ fn stuck(count: u8, size: u64) -> Vec<u8> {
             break;
         }
     }
-    let old = map_of(&volume).names.last().expect("a name").0.clone();
+    let old = map_of(&volume)
+        .names(ROOT)
+        .last()
+        .expect("a name")
+        .0
+        .clone();
     let new = if old == b"a" { b"z" } else { b"a" };
     done(&mut volume, &link(&old, new));
     volume
@@ -575,10 +583,10 @@ fn a_stuck_volume_and_its_way_out() {
         (7, 6_000, "refused 10 (no inode)"),
     ] {
         let volume = stuck(count, size);
-        check_no_space(|list| calls::unlink(&volume, b"a", list));
-        check_no_space(|list| calls::rename(&volume, b"a", b"y", list));
+        check_no_space(|list| calls::unlink(&volume, ROOT, b"a", list));
+        check_no_space(|list| calls::rename(&volume, ROOT, b"a", ROOT, b"y", list));
         check_no_space(|list| calls::set_size(&volume, 1, 0, list));
-        check_no_space(|list| calls::clean(&volume, DIRECTORY, list));
+        check_no_space(|list| calls::clean(&volume, ROOT, list));
         check_no_space(|list| calls::clean(&volume, 1, list));
         assert!(is_stuck(&volume));
         folder.write("v", &volume);
@@ -592,7 +600,7 @@ fn a_stuck_volume_and_its_way_out() {
         }
         let new = map_of(&folder.read(format!("new-{count}")));
         assert_eq!(bytes_by_name(&new), bytes_by_name(&folder.map()));
-        assert_eq!(new.names.len(), usize::from(count) + 1);
+        assert_eq!(new.names(ROOT).len(), usize::from(count) + 1);
     }
 }
 
@@ -651,12 +659,150 @@ fn says_the_way_out(folder: &Folder, put: &str) -> String {
         folder.fails(command, 1, &format!("office: {what}; {out}\n"));
     }
     let ran = folder.office(&["clean", "v"]);
+    let map = folder.map();
+    let first = map.names(ROOT).iter().find(|(_, inode)| *inode == 1);
+    let first = String::from_utf8_lossy(&first.expect("it has a name").0);
     let lines = format!(
-        "office: inode 0: skipped, no room for its new log: {full}\n\
-         office: inode 1: skipped, no room for its new log: {full}\n\
+        "office: /: skipped, no room for its new log: {full}\n\
+         office: {first}: skipped, no room for its new log: {full}\n\
          office: v: {out}\n"
     );
     assert_eq!((ran.status, ran.err), (1, lines));
     folder.says(&["recover", "v"], "nothing to do\n");
     out
+}
+
+/// The paths of all names, a folder's with a "/" at the end and behind what is in it.
+fn paths(folder: &Folder) -> Vec<String> {
+    let ls = String::from_utf8(folder.done(&["ls", "v", "-R"])).expect("text");
+    let path = |line: &str| line.splitn(3, ' ').nth(2).expect("a path").to_owned();
+    let mut paths: Vec<String> = ls.lines().skip(1).map(path).collect();
+    paths.reverse();
+    paths
+}
+
+/// Empties the full volume "v", which has folders, in two ways: whole folders in one command, and one name after
+/// another.
+fn empties_folders(folder: &Folder) {
+    let full = folder.read("v");
+    let names = names(folder);
+    let rm = ["rm", "v", "-r"].into_iter();
+    let rm: Vec<&str> = rm.chain(names.iter().map(String::as_str)).collect();
+    succeeds(folder, &rm);
+    assert_eq!(folder.map(), files(&[]));
+
+    folder.write("v", &full);
+    for path in paths(folder) {
+        let command = if path.ends_with('/') { "rmdir" } else { "rm" };
+        succeeds(folder, &[command, "v", &path]);
+    }
+    assert_eq!(folder.map(), files(&[]));
+}
+
+/// Every folder's log can be cleaned.
+fn check_ways_on(folder: &Folder) {
+    let volume = folder.read("v");
+    let judged = judge(&volume).expect("accepted");
+    for &inode in judged.folders.keys() {
+        let cleaned = calls::clean(&volume, inode, &mut [0; LIST_WORDS]);
+        assert!(cleaned.is_ok(), "inode {inode}: {cleaned:?}");
+    }
+}
+
+/// Volumes filled with folders and files in them until the tool refuses, and emptied again.
+#[test]
+fn folders_filled_and_emptied() {
+    for (pages, inodes, size) in [(24, 64, 0), (40, 64, 0), (40, 64, 300), (64, 256, 1)] {
+        let folder = Folder::with_volume(&format!("fill-folders-{pages}-{size}"), pages, inodes);
+        folder.write("x", &text(size));
+        let mut count = 0;
+        'full: for number in 0.. {
+            let place = format!("f{number}");
+            for name in 0..9 {
+                let to = format!("{place}/n{name}");
+                if !is_done(&folder, &["put", "v", "x", "--as", &to]) {
+                    break 'full;
+                }
+                count += 1;
+            }
+        }
+        println!("{pages} pages, {size} bytes: {count} files in folders");
+        assert!(count > 1);
+        check_ways_on(&folder);
+        empties_folders(&folder);
+    }
+}
+
+/// Moves from folder to folder take pages for good, so they are refused in time; renames go on for ever.
+#[test]
+fn moved_between_folders() {
+    let folder = Folder::with_volume("fill-moves", 32, 64);
+    for number in 0..20 {
+        folder.write(format!("day/e{number:02}"), b"");
+    }
+    succeeds(&folder, &["put", "v", "day"]);
+    let mut made = 0;
+    while is_done(&folder, &["mkdir", "v", &format!("f{made}")]) && made < 25 {
+        made += 1;
+    }
+    let moved = |number: &usize| {
+        let (old, new) = (
+            format!("e{:02}", number % 20),
+            format!("f{}", number % made),
+        );
+        is_done(&folder, &["mv", "v", &old, &new])
+    };
+    let done = (0..20).take_while(moved).count();
+    println!("{made} folders, {done} files moved");
+    assert!(made > 10 && done > 5 && done < 20);
+    check_ways_on(&folder);
+    for (old, new) in [("f0/e00", "f0/z"), ("f0/z", "f0/e00")]
+        .into_iter()
+        .cycle()
+        .take(40)
+    {
+        succeeds(&folder, &["mv", "v", old, new]);
+        check_ways_on(&folder);
+    }
+    empties_folders(&folder);
+}
+
+/// A folder's log is cleaned where that makes room, and said by its path.
+#[test]
+fn cleaning_a_folder_helps() {
+    let folder = Folder::new("helps-folder");
+    let mut volume = formatted(16, 8);
+    done(&mut volume, &samples::create_folder(ROOT, b"f"));
+    done(&mut volume, &samples::create_in(1, b"a"));
+    while judge(&volume).expect("accepted").free_pages() > 2 {
+        done(&mut volume, &samples::create_in(1, b"t"));
+        done(&mut volume, &samples::unlink_in(1, b"t"));
+    }
+    folder.write("v", &volume);
+    folder.write("b", &text(1_000));
+    let put = "1 file put, 1,000 bytes; 9 pages free\n";
+    folder.says_cleaned(&["put", "v", "b"], put, "the log of f/");
+    folder.write("v", &volume);
+    folder.says_cleaned(&["put", "v", "b", "--to", "f"], put, "the log of f/");
+}
+
+/// What changes nothing is done though fewer pages are free than are kept: two names of one file, in two folders.
+#[test]
+fn a_move_that_changes_nothing() {
+    let folder = Folder::new("kept-move");
+    let mut volume = formatted(16, 8);
+    done(&mut volume, &samples::create_folder(ROOT, b"f"));
+    done(&mut volume, &create(b"a"));
+    done(&mut volume, &samples::link_in(ROOT, b"a", 1, b"b"));
+    done(&mut volume, &write(2, 0, &text(4_096)));
+    done(&mut volume, &write(2, 4_096, &text(1_024)));
+    assert_eq!(judge(&volume).expect("accepted").free_pages(), 1);
+    folder.write("v", &volume);
+    folder.says(&["mv", "v", "a", "f/b"], "");
+    assert!(folder.read("v") == volume);
+    let line = format!(
+        "office: a to f/a: would leave 1 free page, and at least 2 are kept so that logs can be cleaned \
+         and files removed; {ADVICE}\n"
+    );
+    folder.fails(&["mv", "v", "a", "f"], 1, &line);
 }

@@ -49,6 +49,14 @@ fn inputs() -> Vec<(&'static str, Vec<u8>, &'static str)> {
             dot_names(),
             "files 2 free 13\n1 700 .\n2 0 ..\n",
         ),
+        (
+            "folders",
+            folders(),
+            "files 4 free 8\n1 65557 east\n2 0 west\n4 20 A1\n6 0 A2\n",
+        ),
+        ("deep", deep(), "files 1 free "),
+        ("totals", totals(), "files 2 free 28\n1 43909120 "),
+        ("ring", ring(), "refused 3\n"),
         ("numbers", numbers(), "files 9 free "),
         ("names-224", most_names(), "files 224 free 1\n"),
         ("largest", largest(), "files 1 free 117\n"),
@@ -83,8 +91,7 @@ fn done(volume: &mut [u8], call: &Call) {
 }
 
 fn create(name: &[u8]) -> Call {
-    let name = name.to_vec();
-    Call::Create { name }
+    samples::create(name)
 }
 
 fn write(inode: u64, offset: u64, bytes: Vec<u8>) -> Call {
@@ -112,10 +119,9 @@ fn full() -> Vec<u8> {
     let name = b"B2".to_vec();
     for _ in 0..3 {
         done(&mut volume, &create(&name));
-        done(&mut volume, &Call::Unlink { name: name.clone() });
+        done(&mut volume, &samples::unlink(&name));
     }
-    let (old, new) = (b"A1".to_vec(), b"A2".to_vec());
-    done(&mut volume, &Call::Rename { old, new });
+    done(&mut volume, &samples::rename(b"A1", b"A2"));
     volume
 }
 
@@ -125,12 +131,9 @@ fn links() -> Vec<u8> {
     for name in [&b"B2"[..], b"C 3\n", b"\xFF\x01"] {
         done(&mut volume, &create(name));
     }
-    let (old, new) = (b"C 3\n".to_vec(), b"A link".to_vec());
-    done(&mut volume, &Call::Link { old, new });
-    let (old, new) = (b"A1".to_vec(), b"last".to_vec());
-    done(&mut volume, &Call::Rename { old, new });
-    let name = b"B2".to_vec();
-    done(&mut volume, &Call::Unlink { name });
+    done(&mut volume, &samples::link(b"C 3\n", b"A link"));
+    done(&mut volume, &samples::rename(b"A1", b"last"));
+    done(&mut volume, &samples::unlink(b"B2"));
     volume
 }
 
@@ -140,6 +143,54 @@ fn dot_names() -> Vec<u8> {
     samples::give_name(&mut volume, b"A1", b".");
     samples::give_name(&mut volume, b"B2", b"..");
     volume
+}
+
+/// Folders in folders, one of them empty; a file has names in two of them and in inode 0.
+fn folders() -> Vec<u8> {
+    let mut tree = samples::Tree::default();
+    tree.folder(0, b"east", 1);
+    tree.folder(0, b"west", 2);
+    tree.folder(1, b"inner", 3);
+    tree.file(0, b"A1", 4, 20);
+    tree.name(1, b"B2", 4);
+    tree.name(3, b"C3", 4);
+    tree.file(3, b"D4", 5, 65_517);
+    tree.file(0, b"A2", 6, 0);
+    tree.volume(16, 16)
+}
+
+/// Three folders, each in the one before, with 224 names each; all the others lead to one file of 65,536 bytes: totals of
+/// eight digits, beside a name of 32 bytes.
+fn totals() -> Vec<u8> {
+    let mut tree = samples::Tree::default();
+    tree.folder(0, &[b'f'; 32], 1);
+    tree.folder(1, b"inner", 2);
+    tree.folder(2, b"inner", 3);
+    tree.file(0, b"A1", 4, 65_536);
+    for (folder, names) in [(1, 223), (2, 223), (3, 224)] {
+        for number in 0..names {
+            tree.name(folder, &samples::numbered(number), 4);
+        }
+    }
+    tree.volume(128, 8)
+}
+
+/// A chain of folders, each in the one before, as deep as 65,536 bytes allow, with a file at its end.
+fn deep() -> Vec<u8> {
+    let mut tree = samples::Tree::default();
+    for inode in 1..=100 {
+        tree.folder(inode - 1, b"folder", inode);
+    }
+    tree.file(100, b"A1", 101, 65_536);
+    tree.volume(128, 104)
+}
+
+/// Two folders that hold each other, and are not reached from inode 0.
+fn ring() -> Vec<u8> {
+    let mut tree = samples::Tree::default();
+    tree.folder(1, b"one", 2);
+    tree.folder(2, b"other", 1);
+    tree.volume(16, 8)
 }
 
 /// Sizes on both sides of each count of digits.

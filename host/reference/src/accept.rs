@@ -2,8 +2,11 @@
 
 use crate::damage::{BadNames, Damage, Fault};
 use crate::journal::Journal;
-use crate::layout::{head_word, tail_word, valid_word, Sizes, DIRECTORY, NAME_LIMIT, PAGE_BYTES};
-use crate::log::{replay_names, File, Log};
+use crate::layout::{
+    head_word, tail_word, type_word, valid_word, Sizes, FILE_TYPE, FOLDER_TYPE, NAME_LIMIT,
+    PAGE_BYTES, ROOT,
+};
+use crate::log::{replay_names, File, Log, Names};
 use crate::uses::{take, unused, Use};
 use crate::Refusal;
 use std::collections::BTreeMap;
@@ -17,11 +20,11 @@ pub struct Volume<'v> {
     pub sizes: Sizes,
     /// The journal.
     pub journal: Journal,
-    /// The names that stand, in list order, each with its inode.
-    pub names: Vec<(&'v [u8], u64)>,
+    /// The names that stand in each valid folder, the directory included, by the folder's inode.
+    pub folders: BTreeMap<u64, Names<'v>>,
     /// The valid files by inode.
     pub files: BTreeMap<u64, File>,
-    /// The log of each valid inode, the directory's included.
+    /// The log of each valid inode, file or folder, the directory's included.
     pub logs: BTreeMap<u64, Log>,
     /// What each page serves for.
     pub uses: Vec<Use>,
@@ -79,7 +82,7 @@ fn accepted(bytes: &[u8], sizes: Sizes, journal: Journal) -> Result<Volume<'_>, 
         bytes,
         sizes,
         journal,
-        names: Vec::new(),
+        folders: BTreeMap::new(),
         files: BTreeMap::new(),
         logs: BTreeMap::new(),
         uses: unused(sizes),
@@ -87,6 +90,7 @@ fn accepted(bytes: &[u8], sizes: Sizes, journal: Journal) -> Result<Volume<'_>, 
     volume.walk_logs()?;
     volume.replay_logs()?;
     volume.check_names().map_err(Damage::Names)?;
+    volume.check_reached().map_err(Damage::Names)?;
     volume.place_mapped_pages()?;
     for (&inode, file) in &volume.files {
         volume.check_end(inode, file)?;
@@ -98,14 +102,14 @@ fn accepted(bytes: &[u8], sizes: Sizes, journal: Journal) -> Result<Volume<'_>, 
 impl Volume<'_> {
     /// Reads the inode table and walks the log of every valid inode.
     fn walk_logs(&mut self) -> Result<(), Damage> {
-        for inode in DIRECTORY..self.sizes.inodes() {
+        for inode in ROOT..self.sizes.inodes() {
             match self.word(valid_word(inode)) {
                 1 => {
                     let ends = [head_word(inode), tail_word(inode)].map(|index| self.word(index));
                     let log = Log::walk(self.bytes, self.sizes, inode, ends, &mut self.uses)?;
                     self.logs.insert(inode, log);
                 }
-                0 if inode != DIRECTORY => {}
+                0 if inode != ROOT => {}
                 0 => return Err(Damage::NoDirectory),
                 value => return Err(Damage::ValidWord { inode, value }),
             }
@@ -115,9 +119,10 @@ impl Volume<'_> {
 
     fn replay_logs(&mut self) -> Result<(), Damage> {
         for (&inode, log) in &self.logs {
-            let entries = log.read(self.bytes, self.sizes, inode);
-            if inode == DIRECTORY {
-                self.names = replay_names(entries)?;
+            let is_folder = self.read_type(inode)?;
+            let entries = log.read(self.bytes, self.sizes, inode, is_folder);
+            if is_folder {
+                self.folders.insert(inode, replay_names(entries)?);
             } else {
                 self.files.insert(inode, File::replay(entries)?);
             }
@@ -125,22 +130,61 @@ impl Volume<'_> {
         Ok(())
     }
 
-    /// At most 224 names stand, each names a valid file, and each valid file has a name.
+    /// Whether a valid inode is a folder. Inode 0 is one whatever its type word holds.
+    fn read_type(&self, inode: u64) -> Result<bool, Damage> {
+        match self.word(type_word(inode)) {
+            _ if inode == ROOT => Ok(true),
+            FILE_TYPE => Ok(false),
+            FOLDER_TYPE => Ok(true),
+            value => Err(Damage::Type { inode, value }),
+        }
+    }
+
+    /// At most 224 names stand in a folder, each names a valid file or folder, each valid file has a
+    /// name, and each valid folder but inode 0 has exactly one. Names are counted over all folders.
     fn check_names(&self) -> Result<(), BadNames> {
-        let count = self.names.len();
-        if count > NAME_LIMIT {
-            return Err(BadNames::Many { count });
-        }
-        let mut named = vec![false; self.sizes.inodes() as usize];
-        for &(name, inode) in &self.names {
-            if !self.files.contains_key(&inode) {
-                let name = name.to_vec();
-                return Err(BadNames::NoFile { name, inode });
+        let mut counts = vec![0; self.sizes.inodes() as usize];
+        for (&folder, names) in &self.folders {
+            let count = names.len();
+            if count > NAME_LIMIT {
+                return Err(BadNames::Many { folder, count });
             }
-            named[inode as usize] = true;
+            for &(name, inode) in names {
+                if !self.logs.contains_key(&inode) {
+                    let name = name.to_vec();
+                    return Err(BadNames::NoFile {
+                        folder,
+                        name,
+                        inode,
+                    });
+                }
+                counts[inode as usize] += 1;
+            }
         }
-        let nameless = self.files.keys().find(|&&inode| !named[inode as usize]);
-        nameless.map_or(Ok(()), |&inode| Err(BadNames::NoName { inode }))
+        for &inode in self.logs.keys().filter(|&&inode| inode != ROOT) {
+            match (counts[inode as usize], self.files.contains_key(&inode)) {
+                (0, true) => return Err(BadNames::NoName { inode }),
+                (_, true) | (1, false) => {}
+                (count, false) => return Err(BadNames::NotOneName { inode, count }),
+            }
+        }
+        Ok(())
+    }
+
+    /// Every valid folder is reached from inode 0.
+    fn check_reached(&self) -> Result<(), BadNames> {
+        let mut reached = vec![ROOT];
+        let mut visited = 0;
+        while let Some(&folder) = reached.get(visited) {
+            for &(_, inode) in &self.folders[&folder] {
+                if self.folders.contains_key(&inode) && !reached.contains(&inode) {
+                    reached.push(inode);
+                }
+            }
+            visited += 1;
+        }
+        let apart = self.folders.keys().find(|inode| !reached.contains(inode));
+        apart.map_or(Ok(()), |&inode| Err(BadNames::NotReached { inode }))
     }
 
     /// Gives every mapped page to its file; no page may serve twice.
@@ -194,22 +238,56 @@ impl<'v> Volume<'v> {
         &self.bytes[start..start + PAGE_BYTES as usize]
     }
 
-    /// The inode that a name leads to; none if the name does not stand.
-    pub fn inode_of(&self, name: &[u8]) -> Option<u64> {
-        self.names
-            .iter()
+    /// The inode that a name leads to in a folder; none if it does not stand there, and none if the
+    /// inode is no valid folder.
+    pub fn inode_of(&self, folder: u64, name: &[u8]) -> Option<u64> {
+        let mut names = self.folders.get(&folder)?.iter();
+        names
             .find(|(standing, _)| *standing == name)
             .map(|&(_, inode)| inode)
     }
 
-    /// How many names lead to an inode.
+    /// How many names lead to an inode, in all folders.
     pub fn name_count(&self, inode: u64) -> usize {
-        self.names.iter().filter(|pair| pair.1 == inode).count()
+        let names = self.folders.values().flatten();
+        names.filter(|pair| pair.1 == inode).count()
+    }
+
+    /// The bytes beneath a folder.
+    ///
+    /// Order 6: "the bytes beneath a folder are the sum over its names, where a file counts its size
+    /// once for each name and a folder counts what lies beneath it." On an accepted volume no folder
+    /// lies beneath itself, so that this ends.
+    pub fn total(&self, folder: u64) -> u64 {
+        let names = self.folders.get(&folder).into_iter().flatten();
+        names.map(|&(_, inode)| self.name_total(inode)).sum()
+    }
+
+    /// What a name that leads to this inode adds to its folder's total: a file's size, or a folder's
+    /// own total.
+    pub fn name_total(&self, inode: u64) -> u64 {
+        match self.files.get(&inode) {
+            Some(file) => file.size,
+            None => self.total(inode),
+        }
+    }
+
+    /// The folder that holds a folder's one name; none for inode 0.
+    pub fn parent_of(&self, folder: u64) -> Option<u64> {
+        let leads_there = |names: &Names<'_>| names.iter().any(|pair| pair.1 == folder);
+        let parent = self.folders.iter().find(|(_, names)| leads_there(names));
+        parent.map(|(&inode, _)| inode)
+    }
+
+    /// Whether a folder is another one or lies beneath it.
+    pub fn is_within(&self, folder: u64, other: u64) -> bool {
+        let mut above = std::iter::successors(Some(folder), |&inode| self.parent_of(inode));
+        above.any(|inode| inode == other)
     }
 
     /// The lowest invalid inode; none if all are valid.
     pub fn lowest_invalid_inode(&self) -> Option<u64> {
-        (DIRECTORY..self.sizes.inodes()).find(|inode| !self.logs.contains_key(inode))
+        (ROOT..self.sizes.inodes()).find(|inode| !self.logs.contains_key(inode))
     }
 
     /// The count of free pages.

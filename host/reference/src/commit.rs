@@ -58,7 +58,8 @@ pub(crate) struct Appended {
 
 /// Appends entries to the log of a valid inode; the head is stored too if the tail was 0.
 ///
-/// The call takes no page after this. The refusals are 12 and 15.
+/// The refusals are 12 and 15. A call that keeps one page back takes none after this; a move, which
+/// does not, appends to two logs.
 pub(crate) fn append(
     volume: &Volume<'_>,
     space: &mut Space,

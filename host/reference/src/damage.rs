@@ -1,5 +1,5 @@
-//! What is wrong with bytes that are not accepted: one case for each sentence of document 01 that
-//! they can break, with the numbers and names that tell where.
+//! What is wrong with bytes that are not accepted: one case for each sentence of document 01, and of
+//! order 6 of document 02, that they can break, with the numbers and names that tell where.
 
 use crate::uses::Use;
 use crate::Refusal;
@@ -61,7 +61,7 @@ pub enum NoVolume {
 }
 
 /// Why a volume is not accepted: a sentence of the section "An accepted volume", or one of those
-/// that it refers to.
+/// that it refers to, or one of order 6.
 #[derive(Clone, Debug, PartialEq, Eq)]
 pub enum Damage {
     /// The journal.
@@ -73,6 +73,13 @@ pub enum Damage {
         /// The inode.
         inode: u64,
         /// Its first word.
+        value: u64,
+    },
+    /// Order 6: "A valid inode's type other than 0 or 1, inode 0's apart, makes a volume damaged."
+    Type {
+        /// The inode.
+        inode: u64,
+        /// Its fourth word.
         value: u64,
     },
     /// The walk through a log.
@@ -194,13 +201,17 @@ pub enum BadLog {
 /// What is wrong with the names that stand in the end.
 #[derive(Clone, Debug, PartialEq, Eq)]
 pub enum BadNames {
-    /// "In the end at most 224 names stand".
+    /// "In the end at most 224 names stand"; order 6: each folder has "its own 224 names".
     Many {
+        /// The folder's inode.
+        folder: u64,
         /// How many do.
         count: usize,
     },
-    /// "each names a valid file".
+    /// "each names a valid file", or a valid folder.
     NoFile {
+        /// The folder's inode.
+        folder: u64,
         /// The name.
         name: Vec<u8>,
         /// The inode that it leads to.
@@ -211,12 +222,26 @@ pub enum BadNames {
         /// The file's inode.
         inode: u64,
     },
+    /// Order 6: "Every valid folder but inode 0 has exactly one name": it has none, or several.
+    NotOneName {
+        /// The folder's inode.
+        inode: u64,
+        /// How many names lead to it, in all folders.
+        count: usize,
+    },
+    /// Order 6: "Every valid folder but inode 0 .. is reached from inode 0". It has one name, but lies
+    /// beneath itself, or beneath a folder that does.
+    NotReached {
+        /// The folder's inode.
+        inode: u64,
+    },
 }
 
 /// What is wrong with an entry: its kind, or what it says by itself.
 #[derive(Clone, Debug, PartialEq, Eq)]
 pub enum BadEntry {
-    /// "The directory has kinds 3 and 4, files 1 and 2."
+    /// "The directory has kinds 3 and 4, files 1 and 2." Order 6: "A folder's log is like the
+    /// directory's".
     Kind {
         /// The entry's first word.
         kind: u64,

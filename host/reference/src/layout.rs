@@ -6,8 +6,12 @@ use crate::damage::NoVolume;
 pub const PAGE_BYTES: u64 = 512;
 /// A page has 64 words of 8 bytes.
 pub const PAGE_WORDS: u64 = 64;
-/// Inode 0 is the directory; it is always valid.
-pub const DIRECTORY: u64 = 0;
+/// Inode 0, the root, is the folder that every volume has.
+pub const ROOT: u64 = 0;
+/// The type of a file.
+pub const FILE_TYPE: u64 = 0;
+/// The type of a folder.
+pub const FOLDER_TYPE: u64 = 1;
 
 /// A file's size is at most 65,536 bytes.
 pub const SIZE_LIMIT: u64 = 65_536;
@@ -17,7 +21,7 @@ pub const FILE_PAGES: u64 = SIZE_LIMIT / PAGE_BYTES;
 pub const WRITE_LIMIT: usize = 4_096;
 /// A name has 1 to 32 bytes.
 pub const NAME_BYTES: usize = 32;
-/// At most 224 names stand.
+/// At most 224 names stand in a folder.
 pub const NAME_LIMIT: usize = 224;
 /// At most four journal entries are open.
 pub const OPEN_LIMIT: u64 = 4;
@@ -55,6 +59,14 @@ pub fn tail_word(inode: u64) -> u64 {
     valid_word(inode) + 2
 }
 
+/// The word that holds an inode's type: [`FILE_TYPE`] or [`FOLDER_TYPE`].
+///
+/// Order 6: "The fourth word of an inode becomes its type, 0 file and 1 folder. Inode 0 is a folder
+/// whatever that word holds." It can be no target of the journal.
+pub fn type_word(inode: u64) -> u64 {
+    valid_word(inode) + 3
+}
+
 /// Word `index` of the volume. A word past the end reads as 0.
 pub fn word(volume: &[u8], index: u64) -> u64 {
     byte_of_word(index)
@@ -83,8 +95,8 @@ pub fn allowed_name(name: &[u8]) -> bool {
     (1..=NAME_BYTES).contains(&name.len()) && name.iter().all(|&byte| allowed_byte(byte))
 }
 
-/// Whether a name may be given to a file: an allowed one that is not kept for the directory itself
-/// or its parent.
+/// Whether a name may be given to a file or folder: an allowed one that is not kept for the
+/// directory itself or its parent.
 ///
 /// Order 5: "POSIX keeps the names "." and ".." for the directory itself and its parent. Create,
 /// link's new name and rename's new name shall no longer accept them."

@@ -1,5 +1,5 @@
-//! A plain reference implementation of the file store that document 01 describes, with orders 1, 3,
-//! 4 and 5 of document 02 (order 2 changes no answer).
+//! A plain reference implementation of the file store that document 01 describes, with orders 1 and
+//! 3 to 6 of document 02 (order 2 changes no answer).
 //!
 //! It was written from the papers alone, to test other code against. It is meant to be read
 //! top-down: [`layout`] (words, pages, sizes), the journal, the logs, the judgement of a volume and
@@ -20,9 +20,9 @@
 //! let mut list = vec![0; 4096];
 //! format(&mut volume, 16, 8)?;
 //!
-//! let count = create(&volume, b"A1", &mut list)?;
+//! let count = create(&volume, 0, b"A1", &mut list)?;
 //! carry_out(&mut volume, &list, count)?;
-//! let inode = find(&volume, b"A1")?;
+//! let inode = find(&volume, 0, b"A1")?;
 //!
 //! let count = write(&volume, inode, 510, b"text", &mut list)?;
 //! carry_out(&mut volume, &list, count)?;
@@ -55,12 +55,14 @@ mod stores;
 mod uses;
 
 pub use accept::{examine, judge, Volume};
-pub use calls::{clean, create, format, link, recover, rename, set_size, unlink, write, Call};
+pub use calls::{
+    clean, create, create_folder, format, link, recover, rename, set_size, unlink, write, Call,
+};
 pub use damage::{BadEntry, BadJournal, BadLog, BadNames, Damage, Fault, NoVolume};
 pub use journal::{Journal, OpenEntry, Position};
-pub use log::{Entry, EntryBytes, File, Log, Placed};
+pub use log::{Entry, EntryBytes, File, Log, Names, Placed};
 pub use map::{map, map_after, refused_by_map, FileMap};
-pub use reading::{find, free_count, gaps, kth_name, listing, read, size};
+pub use reading::{find, free_count, gaps, kth_name, listing, read, size, total};
 pub use refusal::{Answer, Refusal};
 pub use stores::{carry_out, cut, groups, land, Store, FENCE};
 pub use uses::Use;

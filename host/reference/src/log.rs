@@ -2,8 +2,7 @@
 
 use crate::damage::{BadEntry, BadLog, Damage};
 use crate::layout::{
-    allowed_byte, word, Sizes, DIRECTORY, FILE_PAGES, NAME_BYTES, PAGE_BYTES, PAGE_WORDS,
-    SIZE_LIMIT,
+    allowed_byte, word, Sizes, FILE_PAGES, NAME_BYTES, PAGE_BYTES, PAGE_WORDS, ROOT, SIZE_LIMIT,
 };
 use crate::uses::{take, Use};
 use std::collections::HashMap;
@@ -131,7 +130,7 @@ fn read_add(bytes: &EntryBytes, sizes: Sizes) -> Result<Entry<'_>, BadEntry> {
     let name = read_name(bytes)?;
     let inode = word(bytes, 1);
     let last = sizes.inodes() - 1;
-    if !(DIRECTORY + 1..=last).contains(&inode) {
+    if !(ROOT + 1..=last).contains(&inode) {
         return Err(BadEntry::AddedInode { inode, last });
     }
     Ok(Entry::Add { inode, name })
@@ -237,6 +236,7 @@ impl Log {
     }
 
     /// Reads the entries of the log of an inode in order; the first wrong one ends the reading.
+    /// Whether it is a folder decides which kinds it may hold.
     ///
     /// An entry is judged from its own 64 bytes and the volume's two sizes; its log decides only
     /// which kinds it may hold.
@@ -245,6 +245,7 @@ impl Log {
         volume: &'v [u8],
         sizes: Sizes,
         inode: u64,
+        is_folder: bool,
     ) -> impl Iterator<Item = Result<Entry<'v>, Damage>> + 'a {
         self.placed(volume).map(move |placed| {
             let damage = |wrong| Damage::Entry {
@@ -253,7 +254,7 @@ impl Log {
                 number: placed.number,
                 wrong,
             };
-            check_kind(placed.bytes, inode).map_err(damage)?;
+            check_kind(placed.bytes, is_folder).map_err(damage)?;
             Entry::read(placed.bytes, sizes).map_err(damage)
         })
     }
@@ -282,9 +283,9 @@ fn check_ends(sizes: Sizes, head: u64, tail: u64) -> Result<(), BadLog> {
     Ok(())
 }
 
-/// The directory has kinds 3 and 4, files 1 and 2.
-fn check_kind(bytes: &EntryBytes, inode: u64) -> Result<(), BadEntry> {
-    let kinds = if inode == DIRECTORY { [3, 4] } else { [1, 2] };
+/// The directory and every other folder have kinds 3 and 4, files 1 and 2.
+fn check_kind(bytes: &EntryBytes, is_folder: bool) -> Result<(), BadEntry> {
+    let kinds = if is_folder { [3, 4] } else { [1, 2] };
     let kind = word(bytes, 0);
     if !kinds.contains(&kind) {
         return Err(BadEntry::Kind { kind });
@@ -353,12 +354,15 @@ impl File {
     }
 }
 
-/// Replays the directory's log: the list of names with inodes that stand in the end, in order.
+/// The names that stand in a folder, in list order, each with its inode.
+pub type Names<'v> = Vec<(&'v [u8], u64)>;
+
+/// Replays a folder's log: the list of names with inodes that stand in the end, in order.
 ///
 /// In the middle of the log any count of names may stand.
 pub(crate) fn replay_names<'v>(
     entries: impl Iterator<Item = Result<Entry<'v>, Damage>>,
-) -> Result<Vec<(&'v [u8], u64)>, Damage> {
+) -> Result<Names<'v>, Damage> {
     let mut list = Vec::new();
     let mut places: HashMap<&[u8], usize> = HashMap::new();
     for entry in entries {
@@ -368,7 +372,7 @@ pub(crate) fn replay_names<'v>(
                 places.insert(name, list.len() - 1)
             }
             Entry::Remove { name } => places.remove(name),
-            // No kind of the directory's log.
+            // No kind of a folder's log.
             Entry::Write { .. } | Entry::SetSize { .. } => None,
         };
         if let Some(place) = earlier {

@@ -1,28 +1,36 @@
-//! The file map, and the map after a call, defined on maps alone.
+//! The file map with its folders, and the map after a call, defined on maps alone.
 
 use crate::accept::Volume;
 use crate::calls::Call;
-use crate::layout::{
-    allowed_name, allowed_new_name, DIRECTORY, NAME_LIMIT, SIZE_LIMIT, WRITE_LIMIT,
-};
+use crate::layout::{allowed_name, allowed_new_name, NAME_LIMIT, ROOT, SIZE_LIMIT, WRITE_LIMIT};
 use crate::Refusal;
-use std::collections::BTreeMap;
+use std::collections::{BTreeMap, BTreeSet};
 
 /// The file map: what a volume means to those who read its files.
+///
+/// Order 6: "The file map now includes folders". An empty folder and an empty file differ: each inode
+/// stands in one of the two tables.
 #[derive(Clone, Debug, Default, PartialEq, Eq)]
 pub struct FileMap {
-    /// The list of names, each with its inode.
-    pub names: Vec<(Vec<u8>, u64)>,
+    /// The list of names of each valid folder, each name with its inode, by the folder's inode;
+    /// inode 0's too.
+    pub folders: BTreeMap<u64, Vec<(Vec<u8>, u64)>>,
     /// The bytes of each valid file, as many as its size, by inode.
     pub files: BTreeMap<u64, Vec<u8>>,
 }
 
 /// The file map of an accepted volume, read with the journal's open entries put back.
 pub fn map(volume: &Volume<'_>) -> FileMap {
-    let names = volume.names.iter();
+    let folders = volume.folders.iter();
     let files = volume.files.iter();
     FileMap {
-        names: names.map(|&(name, inode)| (name.to_vec(), inode)).collect(),
+        folders: folders
+            .map(|(&inode, names)| {
+                let names = names.iter();
+                let names = names.map(|&(name, inode)| (name.to_vec(), inode));
+                (inode, names.collect())
+            })
+            .collect(),
         files: files
             .map(|(&inode, file)| {
                 let mut bytes = vec![0; file.size as usize];
@@ -34,35 +42,77 @@ pub fn map(volume: &Volume<'_>) -> FileMap {
 }
 
 impl FileMap {
-    /// The inode that a name leads to; none if the name does not stand.
-    pub fn inode_of(&self, name: &[u8]) -> Option<u64> {
-        self.names
-            .iter()
-            .find(|pair| pair.0 == name)
-            .map(|pair| pair.1)
+    /// The names of a folder, in list order; none of what is no valid folder.
+    pub fn names(&self, folder: u64) -> &[(Vec<u8>, u64)] {
+        self.folders.get(&folder).map_or(&[], |names| names)
+    }
+
+    /// The inode that a name leads to in a folder; none if it does not stand there, and none if the
+    /// inode is no valid folder.
+    pub fn inode_of(&self, folder: u64, name: &[u8]) -> Option<u64> {
+        let mut names = self.names(folder).iter();
+        names.find(|pair| pair.0 == name).map(|pair| pair.1)
+    }
+
+    /// Whether an inode is valid, a file or a folder.
+    pub fn is_valid(&self, inode: u64) -> bool {
+        self.files.contains_key(&inode) || self.is_folder(inode)
+    }
+
+    /// Whether an inode is a valid folder.
+    pub fn is_folder(&self, inode: u64) -> bool {
+        self.folders.contains_key(&inode)
     }
 
     /// The lowest invalid inode of `inodes`; none if all are valid.
     pub fn lowest_invalid_inode(&self, inodes: u64) -> Option<u64> {
-        (DIRECTORY + 1..inodes).find(|inode| !self.files.contains_key(inode))
+        (ROOT + 1..inodes).find(|&inode| !self.is_valid(inode))
     }
 
-    /// Adds a name as kind 3 does it.
-    fn add(&mut self, name: &[u8], inode: u64) {
-        self.remove(name);
-        self.names.push((name.to_vec(), inode));
+    /// A folder and all folders beneath it, each once.
+    pub fn folders_within(&self, folder: u64) -> Vec<u64> {
+        let mut found = vec![folder];
+        let mut next = 0;
+        while let Some(&inode) = found.get(next) {
+            for &(_, inside) in self.names(inode) {
+                if self.is_folder(inside) && !found.contains(&inside) {
+                    found.push(inside);
+                }
+            }
+            next += 1;
+        }
+        found
     }
 
-    /// Removes a name as kind 4 does it.
-    fn remove(&mut self, name: &[u8]) {
-        self.names.retain(|pair| pair.0 != name);
+    /// The bytes beneath a folder: the sizes of the files that the names of it and of all folders
+    /// beneath it lead to, each once for each name.
+    pub fn total(&self, folder: u64) -> u64 {
+        let within = self.folders_within(folder);
+        let names = within.iter().flat_map(|&inode| self.names(inode));
+        let files = names.filter_map(|pair| self.files.get(&pair.1));
+        files.map(|bytes| bytes.len() as u64).sum()
     }
 
-    /// Lets go the files left without a name.
+    /// Adds a name to a folder as kind 3 does it.
+    fn add(&mut self, folder: u64, name: &[u8], inode: u64) {
+        self.remove(folder, name);
+        let names = self.folders.entry(folder).or_default();
+        names.push((name.to_vec(), inode));
+    }
+
+    /// Removes a name from a folder as kind 4 does it.
+    fn remove(&mut self, folder: u64, name: &[u8]) {
+        let names = self.folders.entry(folder).or_default();
+        names.retain(|pair| pair.0 != name);
+    }
+
+    /// Lets go the files and the folders left without a name, inode 0 apart.
     fn drop_nameless(&mut self) {
-        let names = &self.names;
-        self.files
-            .retain(|inode, _| names.iter().any(|pair| pair.1 == *inode));
+        let names = self.folders.values().flatten();
+        let named: BTreeSet<u64> = names.map(|pair| pair.1).collect();
+        self.files.retain(|inode, _| named.contains(inode));
+        self.folders
+            .retain(|inode, _| *inode == ROOT || named.contains(inode));
     }
 }
 
@@ -81,22 +131,38 @@ pub fn map_after(before: &FileMap, inodes: u64, call: &Call) -> FileMap {
 
 fn change(map: &mut FileMap, inodes: u64, call: &Call) {
     match call {
-        Call::Create { name } => {
+        Call::Create { folder, name } => {
             if let Some(inode) = map.lowest_invalid_inode(inodes) {
-                map.add(name, inode);
+                map.add(*folder, name, inode);
                 map.files.insert(inode, Vec::new());
             }
         }
-        Call::Link { old, new } => {
-            if let Some(inode) = map.inode_of(old) {
-                map.add(new, inode);
+        Call::CreateFolder { folder, name } => {
+            if let Some(inode) = map.lowest_invalid_inode(inodes) {
+                map.add(*folder, name, inode);
+                map.folders.insert(inode, Vec::new());
             }
         }
-        Call::Unlink { name } => {
-            map.remove(name);
+        Call::Link {
+            old_folder,
+            old,
+            new_folder,
+            new,
+        } => {
+            if let Some(inode) = map.inode_of(*old_folder, old) {
+                map.add(*new_folder, new, inode);
+            }
+        }
+        Call::Unlink { folder, name } => {
+            map.remove(*folder, name);
             map.drop_nameless();
         }
-        Call::Rename { old, new } => rename(map, old, new),
+        Call::Rename {
+            old_folder,
+            old,
+            new_folder,
+            new,
+        } => rename(map, (*old_folder, old), (*new_folder, new)),
         Call::Write {
             inode,
             offset,
@@ -115,12 +181,15 @@ fn change(map: &mut FileMap, inodes: u64, call: &Call) {
     }
 }
 
+/// A name with the folder that it is looked for or added in.
+type Place<'a> = (u64, &'a [u8]);
+
 /// Removes the old name and adds the new with its inode, unless both lead to one inode.
-fn rename(map: &mut FileMap, old: &[u8], new: &[u8]) {
-    if let Some(inode) = map.inode_of(old) {
-        if map.inode_of(new) != Some(inode) {
-            map.remove(old);
-            map.add(new, inode);
+fn rename(map: &mut FileMap, old: Place<'_>, new: Place<'_>) {
+    if let Some(inode) = map.inode_of(old.0, old.1) {
+        if map.inode_of(new.0, new.1) != Some(inode) {
+            map.remove(old.0, old.1);
+            map.add(new.0, new.1, inode);
             map.drop_nameless();
         }
     }
@@ -138,55 +207,118 @@ fn lay_over(file: &mut Vec<u8>, offset: usize, bytes: &[u8]) {
     file[offset..end].copy_from_slice(bytes);
 }
 
-/// The lowest of the refusals 5 to 11 that applies to a call, as the map before it shows; none if
-/// none does.
+/// The first of the refusals 5, 6, 7, 16, 17, 18, 8, 9, 10 and 11, in this order, that applies to a
+/// call, as the map before it shows; none if none does.
 ///
 /// Refusals 1 to 4 come before these, 12 and 15 after; the map cannot show them.
 pub fn refused_by_map(map: &FileMap, inodes: u64, call: &Call) -> Option<Refusal> {
-    let stands = |name: &[u8]| map.inode_of(name).is_some();
-    let valid = |inode: &u64| map.files.contains_key(inode);
-    let full = map.names.len() >= NAME_LIMIT;
+    let stands = |folder: &u64, name: &[u8]| map.inode_of(*folder, name).is_some();
+    // in a file, "no name counts as absent"
+    let absent =
+        |folder: &u64, name: &[u8]| !map.files.contains_key(folder) && !stands(folder, name);
+    let is_file = |inode: &u64| map.files.contains_key(inode);
+    let not_there = |inode: &u64| *inode == ROOT || !map.is_valid(*inode);
+    let full = |folder: &u64| map.names(*folder).len() >= NAME_LIMIT;
     let applying: &[(bool, Refusal)] = match call {
-        Call::Create { name } => &[
+        Call::Create { folder, name } | Call::CreateFolder { folder, name } => &[
             (!allowed_new_name(name), Refusal::BadName),
-            (stands(name), Refusal::Taken),
+            (!map.is_valid(*folder), Refusal::NotThere),
+            (stands(folder, name), Refusal::Taken),
+            (is_file(folder), Refusal::WrongType),
             (map.lowest_invalid_inode(inodes).is_none(), Refusal::NoInode),
-            (full, Refusal::DirectoryFull),
+            (full(folder), Refusal::DirectoryFull),
         ],
-        Call::Link { old, new } => &[
+        Call::Link {
+            old_folder,
+            old,
+            new_folder,
+            new,
+        } => &[
             (bad_names(old, new), Refusal::BadName),
-            (!stands(old), Refusal::NotThere),
-            (stands(new), Refusal::Taken),
-            (full, Refusal::DirectoryFull),
+            (!map.is_valid(*old_folder), Refusal::NotThere),
+            (!map.is_valid(*new_folder), Refusal::NotThere),
+            (absent(old_folder, old), Refusal::NotThere),
+            (stands(new_folder, new), Refusal::Taken),
+            (
+                is_file(old_folder) || is_file(new_folder),
+                Refusal::WrongType,
+            ),
+            (leads_to_folder(map, *old_folder, old), Refusal::WrongType),
+            (full(new_folder), Refusal::DirectoryFull),
         ],
-        Call::Unlink { name } => &[
+        Call::Unlink { folder, name } => &[
             (!allowed_name(name), Refusal::BadName),
-            (!stands(name), Refusal::NotThere),
+            (!map.is_valid(*folder), Refusal::NotThere),
+            (absent(folder, name), Refusal::NotThere),
+            (is_file(folder), Refusal::WrongType),
+            (
+                (map.inode_of(*folder, name)).is_some_and(|inode| !map.names(inode).is_empty()),
+                Refusal::NotEmpty,
+            ),
         ],
-        Call::Rename { old, new } => &[
-            (bad_names(old, new), Refusal::BadName),
-            (!stands(old), Refusal::NotThere),
-        ],
+        Call::Rename {
+            old_folder,
+            old,
+            new_folder,
+            new,
+        } => {
+            let not_there =
+                !map.is_valid(*old_folder) || !map.is_valid(*new_folder) || absent(old_folder, old);
+            let first = match (bad_names(old, new), not_there) {
+                (true, _) => Some(Refusal::BadName),
+                (false, true) => Some(Refusal::NotThere),
+                (false, false) => None,
+            };
+            return first.or_else(|| rename_refused(map, (*old_folder, old), (*new_folder, new)));
+        }
         Call::Write {
             inode,
             offset,
             bytes,
         } => &[
-            (!valid(inode), Refusal::NotThere),
+            (not_there(inode), Refusal::NotThere),
+            (!is_file(inode), Refusal::WrongType),
             (bytes.len() > WRITE_LIMIT, Refusal::LongWrite),
             (ends_past(*offset, bytes.len()), Refusal::PastTheEnd),
         ],
         Call::SetSize { inode, size } => &[
-            (!valid(inode), Refusal::NotThere),
+            (not_there(inode), Refusal::NotThere),
+            (!is_file(inode), Refusal::WrongType),
             (ends_past(*size, 0), Refusal::PastTheEnd),
         ],
-        Call::Clean { inode } => &[(*inode != DIRECTORY && !valid(inode), Refusal::NotThere)],
+        Call::Clean { inode } => &[(!map.is_valid(*inode), Refusal::NotThere)],
         Call::Recover => &[],
     };
     applying
         .iter()
         .find(|(applies, _)| *applies)
         .map(|&(_, refusal)| refusal)
+}
+
+/// What applies to a rename behind 5 and 6: nothing where both names lead to one inode, else the
+/// first of 16, 18 and 11.
+fn rename_refused(map: &FileMap, old: Place<'_>, new: Place<'_>) -> Option<Refusal> {
+    let [moved, standing] = [old, new].map(|(folder, name)| map.inode_of(folder, name));
+    if moved.is_some() && moved == standing {
+        return None;
+    }
+    let moved_folder = moved.filter(|&inode| map.is_folder(inode));
+    let given_files = !map.is_folder(old.0) || !map.is_folder(new.0);
+    let onto_folder = leads_to_folder(map, new.0, new.1);
+    if given_files || onto_folder || (moved_folder.is_some() && standing.is_some()) {
+        return Some(Refusal::WrongType);
+    }
+    if moved_folder.is_some_and(|inode| map.folders_within(inode).contains(&new.0)) {
+        return Some(Refusal::IntoItself);
+    }
+    let one_more = old.0 != new.0 && standing.is_none();
+    (one_more && map.names(new.0).len() >= NAME_LIMIT).then_some(Refusal::DirectoryFull)
+}
+
+/// Whether a name stands in a folder and leads to a folder.
+fn leads_to_folder(map: &FileMap, folder: u64, name: &[u8]) -> bool {
+    let inode = map.inode_of(folder, name);
+    inode.is_some_and(|inode| map.is_folder(inode))
 }
 
 /// Whether the old name of a link or rename may not be looked for, or the new one not be given.

@@ -1,6 +1,6 @@
 //! What an accepted volume is: each condition broken by itself, and what is not read.
 
-use reference::layout::{head_word, set_word, tail_word, valid_word, word};
+use reference::layout::{head_word, set_word, tail_word, type_word, valid_word, word};
 use reference::{judge, Refusal, Use};
 use samples::*;
 
@@ -47,7 +47,7 @@ fn with_file(entries: &[[u64; 8]]) -> Vec<u8> {
 fn the_sample_is_accepted() {
     let volume = sample();
     let judged = judge(&volume).unwrap();
-    assert_eq!(judged.names, [(&b"A1"[..], 1), (b"B2", 2)]);
+    assert_eq!(judged.folders[&0], [(&b"A1"[..], 1), (b"B2", 2)]);
     assert_eq!(judged.files[&1].size, 700);
     assert_eq!(
         judged.files[&1].mapped().collect::<Vec<_>>(),
@@ -68,8 +68,12 @@ fn unread_words() {
         accepted(&with(&[(index, ODD)]));
     }
     for inode in 0..16 {
-        for index in 3..8 {
+        for index in 4..8 {
             accepted(&with(&[(valid_word(inode) + index, ODD)]));
+        }
+        match inode {
+            1 | 2 => damaged(&with(&[(type_word(inode), ODD)])),
+            _ => accepted(&with(&[(type_word(inode), ODD)])),
         }
     }
     for inode in 3..16 {
@@ -409,7 +413,7 @@ fn count_of_names_in_the_end() {
         assert_eq!(judge(&volume).is_ok(), good, "{standing}");
         if good {
             let names: Vec<_> = (0..standing).map(|number| (numbered(number), 1)).collect();
-            assert_eq!(map_of(&volume).names, names);
+            assert_eq!(map_of(&volume).names(0), names);
         }
     }
 }

@@ -58,6 +58,7 @@ fn new_names() {
             &volume,
             &[
                 (create(name), Err(5)),
+                (create_folder(0, name), Err(5)),
                 (link(b"a", name), Err(5)),
                 (rename(b"a", name), Err(5)),
                 (unlink(name), Err(6)),
@@ -67,13 +68,13 @@ fn new_names() {
                 (rename(name, name), Err(5)),
             ],
         );
-        assert_eq!(find(&volume, name), Err(Refusal::NotThere));
+        assert_eq!(find(&volume, 0, name), Err(Refusal::NotThere));
     }
     for name in [&b"..."[..], b".a", b"..a", b"a.", b". ", &[b'.'; 32]] {
         check_answers(
             &volume,
             &[
-                (create(name), Ok(44)),
+                (create(name), Ok(46)),
                 (link(b"a", name), Ok(22)),
                 (rename(b"a", name), Ok(38)),
                 (unlink(name), Err(6)),
@@ -81,7 +82,7 @@ fn new_names() {
         );
         let mut created = volume.clone();
         done(&mut created, &create(name));
-        assert_eq!(find(&created, name), Ok(2));
+        assert_eq!(find(&created, 0, name), Ok(2));
     }
     for name in [&[b'.'; 33][..], b"", b"/", b"./", b"../", b".\0"] {
         let calls = [
@@ -94,7 +95,7 @@ fn new_names() {
         for call in calls.iter().chain(&renames) {
             assert_eq!(answer(&volume, call), Err(5), "{call:?}");
         }
-        assert_eq!(find(&volume, name), Err(Refusal::BadName));
+        assert_eq!(find(&volume, 0, name), Err(Refusal::BadName));
     }
 }
 
@@ -135,9 +136,12 @@ fn found_unlinked_and_renamed_away() {
     let volume = with_both();
     let before = "files 3 free 13\n1 0 .\n2 0 ..\n3 0 a\n";
     assert_eq!(listing(&volume), before.as_bytes());
-    assert_eq!([find(&volume, b"."), find(&volume, b"..")], [Ok(1), Ok(2)]);
+    assert_eq!(
+        [find(&volume, 0, b"."), find(&volume, 0, b"..")],
+        [Ok(1), Ok(2)]
+    );
     let mut buffer = [7; 33];
-    assert_eq!(kth_name(&volume, 1, &mut buffer), Ok(2));
+    assert_eq!(kth_name(&volume, 0, 1, &mut buffer), Ok(2));
     assert_eq!((&buffer[..2], &buffer[2..32]), (&b".."[..], &[0; 30][..]));
     for (call, words, after) in [
         (unlink(b"."), 40, "files 2 free 13\n2 0 ..\n3 0 a\n"),
@@ -216,7 +220,7 @@ fn numbers_before() {
 /// 10, 11, 12 and 15 come after 5: where another name gets such a number, "." and ".." get 5.
 #[test]
 fn numbers_after() {
-    let mut applied = [0; 16];
+    let mut applied = [0; 19];
     for sample in dot_names() {
         for call in [create(b"other"), link(b"a", b"other")] {
             let Err(number @ 10..) = answer(&sample.volume, &call) else {
@@ -250,7 +254,7 @@ fn the_samples() {
         let log = &judged.logs[&0];
         fills[(log.tail % 512 / 64) as usize] += 1;
         let entries = log.placed(&sample.volume).count();
-        shorter += u64::from(entries > judged.names.len());
+        shorter += u64::from(entries > judged.folders[&0].len());
     }
     assert!(held[&(0, false)] > 20 && held[&(1, false)] > 16, "{held:?}");
     assert!(held[&(2, false)] > 16 && held[&(2, true)] == 6, "{held:?}");
@@ -265,8 +269,10 @@ fn has_bad_name(call: &Call) -> bool {
         name.is_empty() || name.len() > 32 || name.contains(&0) || name.contains(&47)
     };
     let names: &[&Vec<u8>] = match call {
-        Call::Create { name } | Call::Unlink { name } => &[name],
-        Call::Link { old, new } | Call::Rename { old, new } => &[old, new],
+        Call::Create { name, .. } | Call::CreateFolder { name, .. } | Call::Unlink { name, .. } => {
+            &[name]
+        }
+        Call::Link { old, new, .. } | Call::Rename { old, new, .. } => &[old, new],
         _ => &[],
     };
     names.iter().any(|name| bad(name)) || gives_dot_name(call)
@@ -294,11 +300,14 @@ fn check_call(volume: &[u8], call: &Call, title: &str) -> u64 {
     expected.map_or(0, Refusal::number)
 }
 
-/// Every dot name that stands stood before.
+/// Every dot name that stands, in whatever folder, stood there before.
 fn no_new_dot_name(before: &FileMap, after: &FileMap) {
-    let before = standing_dot_names(before);
-    let after = standing_dot_names(after);
-    assert!(after.iter().all(|name| before.contains(name)), "{after:?}");
+    for (&folder, names) in &after.folders {
+        for (name, _) in names.iter().filter(|pair| DOT_NAMES.contains(&&pair.0[..])) {
+            let stood = before.inode_of(folder, name).is_some();
+            assert!(stood, "{name:?} in {folder}");
+        }
+    }
 }
 
 /// Every call by name on every sample.
@@ -323,6 +332,7 @@ fn every_sample() {
     let reached = |name, number| counts.get(&(name, number)).copied().unwrap_or(0);
     for (name, numbers) in [
         ("create", &[0, 4, 5, 7, 10, 11, 12, 15][..]),
+        ("create_folder", &[0, 4, 5, 7, 10, 11, 12, 15]),
         ("link", &[0, 4, 5, 6, 7, 11, 12, 15]),
         ("unlink", &[0, 4, 5, 6, 12]),
         ("rename", &[0, 4, 5, 6, 12]),
@@ -341,9 +351,9 @@ fn check_find(volume: &[u8], name: &[u8]) {
     } else if has_bad_name(&unlink(name)) {
         Err(Refusal::BadName)
     } else {
-        map_of(volume).inode_of(name).ok_or(Refusal::NotThere)
+        map_of(volume).inode_of(0, name).ok_or(Refusal::NotThere)
     };
-    assert_eq!(find(volume, name), expected, "{name:?}");
+    assert_eq!(find(volume, 0, name), expected, "{name:?}");
 }
 
 /// Random calls from a volume on, some of them cut. Whatever happens, no dot name stands that did

@@ -7,7 +7,7 @@ use need::{covered_pages, data_places, free_pages, need, refused_for_pages, writ
 use reference::layout::{set_word, tail_word, word};
 use reference::{
     carry_out, free_count, groups, judge, kth_name, land, map_after, read, refused_by_map, size,
-    Call, FileMap, Refusal, Volume,
+    total, Call, FileMap, Refusal, Volume,
 };
 use samples::*;
 
@@ -26,7 +26,8 @@ struct Counts {
     cut: u64,
     left_open: u64,
     scattered: u64,
-    refused: [u64; 16],
+    refused: [u64; 19],
+    moved: u64,
 }
 
 impl History {
@@ -74,6 +75,7 @@ impl History {
         check_places(&judge(&self.volume).unwrap(), &call, &list);
         self.counts.scattered += u64::from(is_scattered(&judge(&self.volume).unwrap(), &call));
         let after = map_after(&before, self.inodes, &call);
+        self.counts.moved += u64::from(!list.is_empty() && changed_logs(&call).len() == 2);
         self.try_cuts(&list, &before, &after);
         if self.random.once_in(3) {
             self.cut_call(&list, &before, &after);
@@ -138,14 +140,17 @@ impl History {
             assert_eq!(free_count(&self.volume), Err(Refusal::JournalOpen));
             return;
         }
-        for (k, (name, inode)) in map.names.iter().enumerate() {
-            let mut buffer = [7; 33];
-            let answer = kth_name(&self.volume, k as u64, &mut buffer);
-            assert_eq!(answer, Ok(name.len() as u64));
-            assert_eq!(buffer[..name.len()], name[..]);
-            assert!(buffer[name.len()..32].iter().all(|&byte| byte == 0));
-            assert_eq!(buffer[32], 7);
-            assert_eq!(reference::find(&self.volume, name), Ok(*inode));
+        for (&folder, names) in &map.folders {
+            for (k, (name, inode)) in names.iter().enumerate() {
+                let mut buffer = [7; 33];
+                let answer = kth_name(&self.volume, folder, k as u64, &mut buffer);
+                assert_eq!(answer, Ok(name.len() as u64));
+                assert_eq!(buffer[..name.len()], name[..]);
+                assert!(buffer[name.len()..32].iter().all(|&byte| byte == 0));
+                assert_eq!(buffer[32], 7);
+                assert_eq!(reference::find(&self.volume, folder, name), Ok(*inode));
+            }
+            assert_eq!(total(&self.volume, folder), Ok(map.total(folder)));
         }
         for (&inode, bytes) in &map.files {
             assert_eq!(size(&self.volume, inode), Ok(bytes.len() as u64));
@@ -163,14 +168,18 @@ impl History {
 /// The longest list of each call, in words.
 fn longest_list(call: &Call) -> usize {
     match call {
-        Call::Create { .. } => 46,
+        Call::Create { .. } | Call::CreateFolder { .. } => 48,
         Call::Link { .. } => 24,
         Call::Unlink { .. } => 42,
-        Call::Rename { .. } => 58,
+        Call::Rename {
+            old_folder,
+            new_folder,
+            ..
+        } if old_folder == new_folder => 58,
+        Call::Rename { .. } => 66,
         Call::Write { .. } => 1_306,
         Call::SetSize { .. } => 168,
-        Call::Clean { inode: 0 } => 3_670,
-        Call::Clean { .. } => 2_108,
+        Call::Clean { .. } => 3_670,
         Call::Recover => 14,
     }
 }
@@ -190,6 +199,30 @@ fn places(volume: &Volume<'_>, need: &Need) -> Vec<u64> {
     taken
 }
 
+/// The inodes whose logs a call changes.
+fn changed_logs(call: &Call) -> Vec<u64> {
+    match call {
+        Call::Create { folder, .. }
+        | Call::CreateFolder { folder, .. }
+        | Call::Unlink { folder, .. } => vec![*folder],
+        Call::Link { new_folder, .. } => vec![*new_folder],
+        Call::Rename {
+            old_folder,
+            new_folder,
+            ..
+        } if old_folder == new_folder => vec![*old_folder],
+        Call::Rename {
+            old_folder,
+            new_folder,
+            ..
+        } => vec![*old_folder, *new_folder],
+        Call::Write { inode, .. } | Call::SetSize { inode, .. } | Call::Clean { inode } => {
+            vec![*inode]
+        }
+        Call::Recover => vec![],
+    }
+}
+
 /// Checks that log and data pages are stored only where the call may: the lowest free pages, and
 /// the log's last page from the tail on.
 fn check_places(volume: &Volume<'_>, call: &Call, list: &[u64]) {
@@ -198,16 +231,14 @@ fn check_places(volume: &Volume<'_>, call: &Call, list: &[u64]) {
         assert_eq!(list.is_empty(), !volume.journal.is_open(), "{call:?}");
         return;
     };
-    let inode = match call {
-        Call::Write { inode, .. } | Call::SetSize { inode, .. } | Call::Clean { inode } => *inode,
-        _ => 0,
-    };
-    let tail = volume.word(tail_word(inode));
+    let tails = changed_logs(call).into_iter();
+    let tails: Vec<u64> = tails.map(|inode| volume.word(tail_word(inode))).collect();
     let mut taken = places(volume, &need);
     let first_word = volume.sizes.first_page() * 64;
     let stores: Vec<(u64, u64)> = groups(list).concat();
     for &(index, _) in stores.iter().filter(|store| store.0 >= first_word) {
-        let behind_tail = index / 64 == tail / 512 && index >= tail / 8;
+        let behind = |tail: &u64| index / 64 == tail / 512 && index >= tail / 8;
+        let behind_tail = tails.iter().any(behind);
         assert!(taken.contains(&(index / 64)) || behind_tail, "{call:?}");
     }
     taken.retain(|page| !stores.iter().any(|store| store.0 / 64 == *page));
@@ -229,22 +260,24 @@ fn history(seed: u64, pages: u64, inodes: u64, calls: u64) -> Counts {
 #[test]
 fn small_volumes() {
     let mut total = Counts::default();
-    for seed in 0..30 {
+    for seed in 0..40 {
         let mut random = Random::new(1_000 + seed);
         let inodes = 8 * random.between(1, 4);
         let pages = random.between(16, 40);
-        let counts = history(seed, pages, inodes, 100);
+        let counts = history(seed, pages, inodes, 160);
         total.landed += counts.landed;
         total.cut += counts.cut;
         total.left_open += counts.left_open;
         total.scattered += counts.scattered;
+        total.moved += counts.moved;
         for (sum, count) in total.refused.iter_mut().zip(counts.refused) {
             *sum += count;
         }
     }
     assert!(total.landed > 500 && total.cut > 200 && total.left_open > 40);
     assert!(total.scattered > 4, "{}", total.scattered);
-    for number in [4, 5, 6, 7, 8, 9, 10, 12, 15] {
+    assert!(total.moved > 40, "{}", total.moved);
+    for number in [4, 5, 6, 7, 8, 9, 10, 12, 15, 16, 17, 18] {
         assert!(total.refused[number] > 5, "{number}: {:?}", total.refused);
     }
     for number in [1, 2, 3, 13, 14] {
@@ -265,6 +298,31 @@ fn scattered_volumes() {
         scattered_writes += history.counts.scattered;
     }
     assert!(scattered_writes > 80, "{scattered_writes}");
+}
+
+/// From volumes with folders on, which have full log pages and few free ones.
+#[test]
+fn volumes_with_folders() {
+    let mut moved = 0;
+    let mut refused = [0; 19];
+    for (sample, seed) in folders().zip(400..) {
+        if judge(&sample.volume).unwrap().journal.is_open() {
+            continue;
+        }
+        let mut history = History::on(Random::new(seed), sample.volume);
+        for _ in 0..40 {
+            history.step();
+        }
+        history.check_readings();
+        moved += history.counts.moved;
+        for (sum, count) in refused.iter_mut().zip(history.counts.refused) {
+            *sum += count;
+        }
+    }
+    assert!(moved > 80, "{moved}");
+    for number in [6, 7, 12, 15, 16, 17, 18] {
+        assert!(refused[number] > 0, "{number}: {refused:?}");
+    }
 }
 
 #[test]

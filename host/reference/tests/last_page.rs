@@ -52,7 +52,8 @@ fn create_and_unlink() {
         assert_eq!(answer(&none, &call), Err(12), "{call:?}");
     }
     let two = few(2, 7, 3);
-    assert_eq!(answer(&two, &create(b"new")), Ok(46));
+    assert_eq!(answer(&two, &create(b"new")), Ok(48));
+    assert_eq!(answer(&two, &create_folder(0, b"new")), Ok(48));
     assert_eq!(answer(&two, &link(b"a", b"new")), Ok(24));
 }
 
@@ -79,7 +80,8 @@ fn calls_that_take_no_page() {
     for free in [0, 1] {
         let volume = few(free, 3, 3);
         for (call, words) in [
-            (create(b"new"), 44),
+            (create(b"new"), 46),
+            (create_folder(0, b"new"), 46),
             (link(b"a", b"new"), 22),
             (unlink(b"a"), 40),
             (rename(b"a", b"new"), 38),
@@ -126,6 +128,7 @@ fn the_place_among_the_checks() {
     let mut list = marked_list(4_095);
     for call in [
         create(b"new"),
+        create_folder(0, b"new"),
         link(b"a", b"new"),
         write(1, 0, b"x"),
         set_size(1, 300),
@@ -179,7 +182,7 @@ fn directory_full_before_the_last_page() {
     assert_eq!(answer(&volume, &link(&numbered(1), b"new")), Err(11));
     done(&mut volume, &unlink(&numbered(1)));
     assert_eq!(free_count(&volume), Ok(0), "unlink took the last page");
-    assert_eq!(answer(&volume, &create(b"new")), Ok(44), "it takes no page");
+    assert_eq!(answer(&volume, &create(b"new")), Ok(46), "it takes no page");
 }
 
 /// How many of the free pages a call takes: those that its list stores into.
@@ -282,6 +285,7 @@ fn check_reached(counts: &BTreeMap<(&str, Became), u64>) {
     let reached = |name, became| counts.get(&(name, became)).copied().unwrap_or(0);
     for (name, most, numbers) in [
         ("create", 1, &[12, 15][..]),
+        ("create_folder", 1, &[12, 15]),
         ("link", 1, &[12, 15]),
         ("unlink", 1, &[12]),
         ("rename", 1, &[12]),
@@ -325,7 +329,7 @@ fn a_page_is_left() {
         }
     }
     assert_eq!(last_taken, BTreeSet::from(["clean", "rename", "unlink"]));
-    assert_eq!(on_full.len(), 8, "{on_full:?}");
+    assert_eq!(on_full.len(), 9, "{on_full:?}");
 }
 
 /// "unlink fails when the remove entry wants a log page": with one free page it no longer does.
@@ -333,7 +337,7 @@ fn a_page_is_left() {
 fn unlink_of_a_standing_name() {
     let mut counts = [0; 2];
     for sample in last_page() {
-        let names = map_of(&sample.volume).names;
+        let names = map_of(&sample.volume).names(0).to_vec();
         let room = judge(&sample.volume).unwrap().logs[&0].tail % 512 != 448;
         for (name, _) in &names {
             let is_done = filled(&sample.volume, &unlink(name)).is_ok();
@@ -399,7 +403,7 @@ fn one_more_free_page() {
             *counts.entry((name_of(call), number)).or_default() += 1;
         }
     }
-    for name in ["create", "link", "write", "set_size"] {
+    for name in ["create", "create_folder", "link", "write", "set_size"] {
         assert!(counts[&(name, 15)] > 20, "{name}: {counts:?}");
     }
     for name in ["unlink", "rename", "clean"] {

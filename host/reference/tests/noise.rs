@@ -8,7 +8,7 @@ use need::refused_for_pages;
 use reference::layout::{set_word, word};
 use reference::{
     carry_out, cut, find, format, free_count, gaps, groups, judge, kth_name, land, listing, map,
-    map_after, read, refused_by_map, size, Answer, Call, Refusal, FENCE,
+    map_after, read, refused_by_map, size, total, Answer, Call, Refusal, FENCE,
 };
 use samples::*;
 
@@ -97,7 +97,9 @@ fn reading_calls(random: &mut Random, volume: &[u8], refusal: Option<Refusal>) {
             assert_eq!(buffer, marked);
         }
     };
-    check(find(volume, &any_name(random)), &marked);
+    check(find(volume, random.below(4), &any_name(random)), &marked);
+    check(total(volume, any_number(random)), &marked);
+    check(total(volume, random.below(4)), &marked);
     check(size(volume, any_number(random)), &marked);
     check(free_count(volume), &marked);
     for inode in [any_number(random), random.below(5)] {
@@ -110,7 +112,7 @@ fn reading_calls(random: &mut Random, volume: &[u8], refusal: Option<Refusal>) {
     }
     for k in [any_number(random), random.below(3)] {
         let mut buffer = marked.clone();
-        let answer = kth_name(volume, k, &mut buffer);
+        let answer = kth_name(volume, random.below(4), k, &mut buffer);
         check(answer, &buffer);
         assert_eq!(buffer.get(32..), marked.get(32..));
     }

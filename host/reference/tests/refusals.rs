@@ -3,8 +3,8 @@
 
 use reference::layout::{set_word, word};
 use reference::{
-    carry_out, find, format, free_count, gaps, judge, kth_name, listing, read, size, Answer, Call,
-    Refusal, FENCE,
+    carry_out, find, format, free_count, gaps, judge, kth_name, listing, read, size, total, Answer,
+    Call, Refusal, FENCE,
 };
 use samples::*;
 
@@ -43,12 +43,15 @@ fn bad_calls() -> Vec<Call> {
     vec![
         create(b""),
         create(b"A1"),
+        create_folder(9, b"A1"),
+        create_folder(1, b"/"),
         link(b"A1", b"/"),
         link(b"x", b"A1"),
         unlink(b"a/b"),
         unlink(b"x"),
         rename(b"", b"A1"),
         rename(b"x", b"A1"),
+        rename_in(1, b"x", 1, b"x"),
         write(0, u64::MAX, &text(5_000)),
         write(1, u64::MAX, &text(5_000)),
         set_size(u64::MAX, u64::MAX),
@@ -80,14 +83,18 @@ fn readings(volume: &[u8]) -> Vec<Answer> {
     let mut buffer = marked.clone();
     let mut pairs = marked_list(20);
     let answers = vec![
-        find(volume, b"/"),
-        find(volume, b"A1"),
+        find(volume, 0, b"/"),
+        find(volume, 0, b"A1"),
         size(volume, 0),
         size(volume, 1),
         read(volume, 8, 0, &mut buffer),
         read(volume, 1, 0, &mut buffer[..4]),
-        kth_name(volume, u64::MAX, &mut buffer),
-        kth_name(volume, 0, &mut buffer),
+        kth_name(volume, 0, u64::MAX, &mut buffer),
+        kth_name(volume, 0, 0, &mut buffer),
+        kth_name(volume, 1, 0, &mut buffer),
+        find(volume, 1, b"A1"),
+        total(volume, 0),
+        total(volume, 1),
         free_count(volume),
         gaps(volume, &mut []),
         gaps(volume, &mut pairs),
@@ -121,6 +128,9 @@ fn numbers_and_words() {
         (13, "bad list"),
         (14, "too many gaps"),
         (15, "last page"),
+        (16, "wrong type"),
+        (17, "not empty"),
+        (18, "into itself"),
     ];
     let actual = Refusal::ALL.map(|refusal| (refusal.number(), refusal.word()));
     assert_eq!(actual, table);
@@ -157,13 +167,13 @@ fn short_name_buffer_before_anything_else() {
     for volume in [vec![], ruined(ready()), damaged(ready()), ready()] {
         for length in [0, 1, 31] {
             let mut buffer = vec![0xA7; length];
-            let answer = kth_name(&volume, u64::MAX, &mut buffer);
+            let answer = kth_name(&volume, 0, u64::MAX, &mut buffer);
             assert_eq!(answer, Err(Refusal::ShortMemory));
             assert_eq!(buffer, vec![0xA7; length]);
         }
     }
     let mut buffer = [0xA7; 32];
-    assert_eq!(kth_name(&ready(), 0, &mut buffer), Ok(2));
+    assert_eq!(kth_name(&ready(), 0, 0, &mut buffer), Ok(2));
     let mut expected = [0; 32];
     expected[..2].copy_from_slice(b"A1");
     assert_eq!(buffer, expected);
@@ -267,14 +277,14 @@ fn bad_names() {
             assert_eq!(refused(&volume, &rename(name, other)), 5);
             assert_eq!(refused(&volume, &rename(other, name)), 5);
         }
-        assert_eq!(find(&volume, name), Err(Refusal::BadName));
+        assert_eq!(find(&volume, 0, name), Err(Refusal::BadName));
     }
     for name in [&[97][..], &[97; 32], b"...", &[46, 48], &[1, 255, 10]] {
-        assert_eq!(filled(&volume, &create(name)).unwrap().len(), 44);
+        assert_eq!(filled(&volume, &create(name)).unwrap().len(), 46);
         assert_eq!(filled(&volume, &link(b"A1", name)).unwrap().len(), 22);
         assert_eq!(filled(&volume, &rename(b"A1", name)).unwrap().len(), 38);
         assert_eq!(refused(&volume, &unlink(name)), 6);
-        assert_eq!(find(&volume, name), Err(Refusal::NotThere));
+        assert_eq!(find(&volume, 0, name), Err(Refusal::NotThere));
     }
 }
 
@@ -287,8 +297,8 @@ fn not_there() {
     assert_eq!(refused(&volume, &unlink(b"x")), 6);
     assert_eq!(refused(&volume, &rename(b"x", b"A1")), 6);
     assert_eq!(refused(&volume, &rename(b"x", b"x")), 6);
-    assert_eq!(find(&volume, b"A"), Err(Refusal::NotThere));
-    assert_eq!(find(&volume, b"A1"), Ok(1));
+    assert_eq!(find(&volume, 0, b"A"), Err(Refusal::NotThere));
+    assert_eq!(find(&volume, 0, b"A1"), Ok(1));
 
     let mut buffer = [0xA7; 40];
     for inode in [0, 3, 7, 8, 256, u64::MAX, 1 << 61, (1 << 32) + 1] {
@@ -302,10 +312,10 @@ fn not_there() {
         }
     }
     for k in [2, 3, 224, 1 << 32, u64::MAX] {
-        assert_eq!(kth_name(&volume, k, &mut buffer), Err(Refusal::NotThere));
+        assert_eq!(kth_name(&volume, 0, k, &mut buffer), Err(Refusal::NotThere));
     }
     assert_eq!(buffer, [0xA7; 40]);
-    assert_eq!(kth_name(&volume, 1, &mut buffer), Ok(2));
+    assert_eq!(kth_name(&volume, 0, 1, &mut buffer), Ok(2));
     assert_eq!(&buffer[..2], b"B2");
     assert_eq!(buffer[2..32], [0; 30]);
     assert_eq!(buffer[32..], [0xA7; 8]);
@@ -329,7 +339,7 @@ fn taken_before_no_inode() {
     assert_eq!(refused(&volume, &create(b"x")), 10);
     done(&mut volume, &unlink(&numbered(4)));
     done(&mut volume, &create(b"x"));
-    assert_eq!(find(&volume, b"x"), Ok(4), "the lowest invalid inode");
+    assert_eq!(find(&volume, 0, b"x"), Ok(4), "the lowest invalid inode");
 }
 
 #[test]
@@ -530,9 +540,12 @@ fn directory_full_with_many_inodes() {
     assert_eq!(refused(&volume, &link(b"x", b"y")), 6);
     assert_eq!(refused(&volume, &rename(&numbered(1), b"x")), 12);
     assert_eq!(refused(&volume, &unlink(&numbered(1))), 12);
-    assert_eq!(find(&volume, &numbered(224)), Ok(224));
-    assert_eq!(kth_name(&volume, 223, &mut [0; 32]), Ok(4));
-    assert_eq!(kth_name(&volume, 224, &mut [0; 32]), Err(Refusal::NotThere));
+    assert_eq!(find(&volume, 0, &numbered(224)), Ok(224));
+    assert_eq!(kth_name(&volume, 0, 223, &mut [0; 32]), Ok(4));
+    assert_eq!(
+        kth_name(&volume, 0, 224, &mut [0; 32]),
+        Err(Refusal::NotThere)
+    );
 }
 
 #[test]

@@ -34,10 +34,10 @@ fn readings(volume: &[u8]) -> Readings {
     said.answers = vec![
         free_count(volume),
         gaps(volume, &mut said.pairs),
-        find(volume, b"a"),
-        find(volume, b"c"),
+        find(volume, 0, b"a"),
+        find(volume, 0, b"c"),
         read(volume, 1, 3, &mut said.bytes),
-        kth_name(volume, 2, &mut said.name),
+        kth_name(volume, 0, 2, &mut said.name),
     ];
     let sizes = (1..4).map(|inode| size(volume, inode));
     said.answers.extend(sizes);

@@ -1,6 +1,8 @@
 //! Volumes and logs made by hand, word by word, without the reference model's own writing.
 
-use reference::layout::{head_word, set_word, tail_word, valid_word, word, DIRECTORY};
+use reference::layout::{
+    head_word, set_word, tail_word, type_word, valid_word, word, FILE_TYPE, FOLDER_TYPE, ROOT,
+};
 use reference::{format, judge, Entry};
 
 /// A formatted volume whose other pages hold old bytes.
@@ -79,9 +81,19 @@ fn named(kind: u64, inode: u64, name: &[u8]) -> [u64; 8] {
     entry
 }
 
-/// Puts a log on a volume by hand, in these pages, and makes its inode valid.
+/// Puts the log of a folder on a volume by hand, in these pages, and makes its inode a valid folder.
+pub fn put_folder(volume: &mut [u8], inode: u64, pages: &[u64], entries: &[[u64; 8]]) {
+    put_log(volume, inode, pages, entries);
+    set_word(volume, type_word(inode), FOLDER_TYPE);
+}
+
+/// Puts a log on a volume by hand, in these pages, and makes its inode a valid file; inode 0's type
+/// word, which is not read, stays.
 pub fn put_log(volume: &mut [u8], inode: u64, pages: &[u64], entries: &[[u64; 8]]) {
     assert_eq!(pages.len(), entries.len().div_ceil(7));
+    if inode != ROOT {
+        set_word(volume, type_word(inode), FILE_TYPE);
+    }
     set_word(volume, valid_word(inode), 1);
     set_word(
         volume,
@@ -126,7 +138,8 @@ pub fn put_entry(volume: &mut [u8], page: u64, place: u64, entry: &[u64; 8]) {
     }
 }
 
-/// Gives the file of a standing name another one by hand, also one that no call would give.
+/// Gives what a standing name of inode 0 leads to another one by hand, also one that no call would
+/// give.
 ///
 /// The name is changed where it stands in the directory's log: in the add that is the only entry
 /// with it. So the list of names keeps its order.
@@ -136,8 +149,8 @@ pub fn put_entry(volume: &mut [u8], page: u64, place: u64, entry: &[u64; 8]) {
 ///
 /// let mut volume = sample();
 /// give_name(&mut volume, b"A1", b".");
-/// assert_eq!(reference::find(&volume, b"."), Ok(1));
-/// assert_eq!(reference::find(&volume, b"A1"), Err(reference::Refusal::NotThere));
+/// assert_eq!(reference::find(&volume, 0, b"."), Ok(1));
+/// assert_eq!(reference::find(&volume, 0, b"A1"), Err(reference::Refusal::NotThere));
 /// assert_eq!(reference::listing(&volume), b"files 2 free 13\n1 700 .\n2 0 B2\n");
 /// ```
 pub fn give_name(volume: &mut [u8], old: &[u8], new: &[u8]) {
@@ -155,17 +168,17 @@ pub fn give_name(volume: &mut [u8], old: &[u8], new: &[u8]) {
     assert_eq!(standing(volume), after.collect::<Vec<_>>());
 }
 
-/// The names that stand on an accepted volume, in list order, each with its inode.
+/// The names that stand in inode 0 of an accepted volume, in list order, each with its inode.
 fn standing(volume: &[u8]) -> Vec<(Vec<u8>, u64)> {
     let judged = judge(volume).expect("the volume is accepted");
-    let names = judged.names.iter();
+    let names = judged.folders[&ROOT].iter();
     names.map(|&(name, inode)| (name.to_vec(), inode)).collect()
 }
 
 /// The first word of the only entry of the directory's log with this name, an add, and its inode.
 fn only_add(volume: &[u8], wanted: &[u8]) -> (u64, u64) {
     let judged = judge(volume).expect("the volume is accepted");
-    let entries = judged.logs[&DIRECTORY].placed(volume);
+    let entries = judged.logs[&ROOT].placed(volume);
     let found: Vec<(u64, Option<u64>)> = entries
         .filter_map(|placed| {
             let first_word = placed.page * 64 + 8 * (placed.number as u64 - 1);

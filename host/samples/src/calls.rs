@@ -1,5 +1,6 @@
 //! Changing calls by the reference model, with what holds of every store list checked.
 
+use reference::layout::ROOT;
 use reference::{groups, judge, land, map, Answer, Call, FileMap, Refusal, FENCE};
 
 /// A store list of this many words, each holding a value that no call would fill in.
@@ -65,30 +66,64 @@ pub fn done(volume: &mut [u8], call: &Call) -> u64 {
     run(volume, call).expect("the call is done")
 }
 
-/// The call create.
+/// The call create, in inode 0.
 pub fn create(name: &[u8]) -> Call {
-    Call::Create {
-        name: name.to_vec(),
-    }
+    create_in(ROOT, name)
 }
 
-/// The call link.
+/// The call create, in a folder.
+pub fn create_in(folder: u64, name: &[u8]) -> Call {
+    let name = name.to_vec();
+    Call::Create { folder, name }
+}
+
+/// The call create folder, in a folder.
+pub fn create_folder(folder: u64, name: &[u8]) -> Call {
+    let name = name.to_vec();
+    Call::CreateFolder { folder, name }
+}
+
+/// The call link, both names in inode 0.
 pub fn link(old: &[u8], new: &[u8]) -> Call {
-    let (old, new) = (old.to_vec(), new.to_vec());
-    Call::Link { old, new }
+    link_in(ROOT, old, ROOT, new)
 }
 
-/// The call unlink.
-pub fn unlink(name: &[u8]) -> Call {
-    Call::Unlink {
-        name: name.to_vec(),
+/// The call link, each name in a folder.
+pub fn link_in(old_folder: u64, old: &[u8], new_folder: u64, new: &[u8]) -> Call {
+    let (old, new) = (old.to_vec(), new.to_vec());
+    Call::Link {
+        old_folder,
+        old,
+        new_folder,
+        new,
     }
 }
 
-/// The call rename.
+/// The call unlink, in inode 0.
+pub fn unlink(name: &[u8]) -> Call {
+    unlink_in(ROOT, name)
+}
+
+/// The call unlink, in a folder.
+pub fn unlink_in(folder: u64, name: &[u8]) -> Call {
+    let name = name.to_vec();
+    Call::Unlink { folder, name }
+}
+
+/// The call rename, both names in inode 0.
 pub fn rename(old: &[u8], new: &[u8]) -> Call {
+    rename_in(ROOT, old, ROOT, new)
+}
+
+/// The call rename, each name in a folder: a move, where these differ.
+pub fn rename_in(old_folder: u64, old: &[u8], new_folder: u64, new: &[u8]) -> Call {
     let (old, new) = (old.to_vec(), new.to_vec());
-    Call::Rename { old, new }
+    Call::Rename {
+        old_folder,
+        old,
+        new_folder,
+        new,
+    }
 }
 
 /// The call write.
@@ -115,6 +150,7 @@ pub fn clean(inode: u64) -> Call {
 pub fn name_of(call: &Call) -> &'static str {
     match call {
         Call::Create { .. } => "create",
+        Call::CreateFolder { .. } => "create_folder",
         Call::Link { .. } => "link",
         Call::Unlink { .. } => "unlink",
         Call::Rename { .. } => "rename",

@@ -14,14 +14,16 @@ pub struct Library {
     pub fill: fn(&Call, &[u8], &mut [u64]) -> Answer,
     /// Carry out.
     pub carry_out: CarryOut,
-    /// Find.
-    pub find: fn(&[u8], &[u8]) -> Answer,
+    /// Find, in a folder.
+    pub find: fn(&[u8], u64, &[u8]) -> Answer,
     /// Size.
     pub size: fn(&[u8], u64) -> Answer,
     /// Read.
     pub read: fn(&[u8], u64, u64, &mut [u8]) -> Answer,
-    /// K-th name.
-    pub kth_name: fn(&[u8], u64, &mut [u8]) -> Answer,
+    /// K-th name of a folder.
+    pub kth_name: fn(&[u8], u64, u64, &mut [u8]) -> Answer,
+    /// Total of a folder.
+    pub total: fn(&[u8], u64) -> Answer,
     /// Count of free pages.
     pub free_count: fn(&[u8]) -> Answer,
     /// Gaps.
@@ -124,14 +126,14 @@ fn check_volume(library: &Library, case: &Case, volume: &[u8]) {
         let mut expected = [0; 33];
         expected[..name.len()].copy_from_slice(name);
         expected[32] = 7;
-        let length = (library.kth_name)(volume, k as u64, &mut padded);
+        let length = (library.kth_name)(volume, 0, k as u64, &mut padded);
         assert_eq!(
             (length, padded),
             (Ok(name.len() as u64), expected),
             "{}",
             case.name
         );
-        assert_eq!((library.find)(volume, name), Ok(*inode), "{}", case.name);
+        assert_eq!((library.find)(volume, 0, name), Ok(*inode), "{}", case.name);
         assert_eq!(
             (library.size)(volume, *inode),
             Ok(bytes.len() as u64),
@@ -145,7 +147,9 @@ fn check_volume(library: &Library, case: &Case, volume: &[u8]) {
         );
         assert_eq!(buffer, [&bytes[..], &[7; 3]].concat(), "{}", case.name);
     }
-    let none = (library.kth_name)(volume, case.names.len() as u64, &mut [0; 32]);
+    let sizes: usize = case.names.iter().map(|row| row.2.len()).sum();
+    assert_eq!((library.total)(volume, 0), Ok(sizes as u64), "{name}");
+    let none = (library.kth_name)(volume, 0, case.names.len() as u64, &mut [0; 32]);
     assert_eq!(none, Err(Refusal::NotThere), "{name}: no further name");
     for inode in 1..8 {
         if !case.names.iter().any(|row| row.1 == inode) {
@@ -221,12 +225,12 @@ fn the_chain() -> Vec<Case> {
             name: "B",
             before: before(0),
             call: b,
-            answer: Ok(Some(46)),
+            answer: Ok(Some(48)),
             groups: create_groups(),
             words: vec![
                 (128, vec![3, 1, 2, 12_609, 0, 0, 0, 0]),
                 (64, vec![1, 2, 1_088]),
-                (72, vec![1, 0, 0]),
+                (72, vec![1, 0, 0, 0]),
                 (8, vec![2, 2]),
             ],
             free: 13,
@@ -279,10 +283,11 @@ fn the_chain() -> Vec<Case> {
     ]
 }
 
-/// The list of case B.
+/// The list of case B. Order 6: "Every create, of a file or a folder, stores the type in its first
+/// group, so case B's list has 48 words."
 fn create_groups() -> Vec<Vec<Store>> {
     let journal = [(16, 66), (17, 0), (18, 72), (19, 0)];
-    let inodes = [(65, 2), (73, 0), (74, 0)];
+    let inodes = [(65, 2), (73, 0), (74, 0), (75, 0)];
     let entry = [3, 1, 2, 12_609, 0, 0, 0, 0];
     let mut first = [&journal[..], &inodes].concat();
     first.extend((128..).zip(entry));
@@ -401,7 +406,7 @@ fn limits() -> Vec<Case> {
     let longest = (&[97_u8; 32] as &[u8], 1, vec![]);
     let (seventh, eighth) = (create(NAMES[6]), create(b"n008"));
     vec![
-        row("L", vec![], create(&[97; 32]), Ok(Some(46)), vec![longest]),
+        row("L", vec![], create(&[97; 32]), Ok(Some(48)), vec![longest]),
         row("L, 33 bytes", vec![], create(&[97; 33]), Err(5), vec![]),
         row(
             "L, seven creates",

@@ -2,12 +2,12 @@
 
 use crate::by_hand::footer_word;
 use crate::numbers::any_number;
-use reference::layout::{head_word, set_word, tail_word, valid_word, word};
+use reference::layout::{head_word, set_word, tail_word, type_word, valid_word, word, ROOT};
 use reference::random::Random;
 use reference::{judge, Log, Volume};
 
 /// The words that a judge of an accepted volume reads, in groups by what they are, none empty: the
-/// header, the journal, valid words, heads and tails, links, kinds and fields of entries, and the
+/// header, the journal, valid words, types, heads and tails, links, kinds and fields of entries, and the
 /// zeros behind the ends of files. Of what is not accepted, the header, the journal and the inodes.
 pub fn live_words(volume: &[u8]) -> Vec<Vec<u64>> {
     let mut groups = match judge(volume) {
@@ -15,6 +15,7 @@ pub fn live_words(volume: &[u8]) -> Vec<Vec<u64>> {
             vec![0, 1, 2],
             journal_words(&judged),
             (0..judged.sizes.inodes()).map(valid_word).collect(),
+            type_words(&judged),
             end_words(&judged),
             link_words(&judged),
             entry_words(&judged).map(|entry| entry.start).collect(),
@@ -38,6 +39,12 @@ fn journal_words(volume: &Volume<'_>) -> Vec<u64> {
         position = position.next();
     }
     words
+}
+
+/// The type words of valid inodes but inode 0.
+fn type_words(volume: &Volume<'_>) -> Vec<u64> {
+    let inodes = volume.logs.keys().filter(|&&inode| inode != ROOT);
+    inodes.map(|&inode| type_word(inode)).collect()
 }
 
 /// The heads and tails of valid inodes.

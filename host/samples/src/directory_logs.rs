@@ -24,7 +24,7 @@ pub const MOST_DIFFERENT: u64 = (MOST_ENTRIES + NAME_LIMIT as u64) / 2;
 /// log.add(b"b");
 /// log.remove(b"a");
 /// assert_eq!(log.standing(), [(b"b".to_vec(), 2)]);
-/// assert_eq!(reference::find(&log.volume(20), b"b"), Ok(2));
+/// assert_eq!(reference::find(&log.volume(20), 0, b"b"), Ok(2));
 /// assert_eq!(reference::free_count(&log.volume(20)), Ok(log.free_pages(20)));
 /// ```
 #[derive(Clone, Debug, Default)]

@@ -12,11 +12,13 @@
 //! - The journal is open, after a cut in a call that takes "." away.
 
 use crate::by_hand::give_name;
-use crate::calls::{clean, create, done, filled, link, rename, unlink};
+use crate::calls::{
+    clean, create, create_folder, create_in, done, filled, link, link_in, rename, rename_in, unlink,
+};
 use crate::directory_logs::{added_again, added_and_removed, varied_names, DirectoryLog};
 use crate::last_page::FewFree;
 use crate::random_calls::any_call;
-use reference::layout::{tail_word, DIRECTORY, NAME_LIMIT};
+use reference::layout::{tail_word, NAME_LIMIT, ROOT};
 use reference::random::Random;
 use reference::{cut, Call, FileMap};
 
@@ -59,27 +61,28 @@ pub fn calls_by_name() -> Vec<Call> {
     let names = tried_names();
     let mut calls = vec![clean(0)];
     for one in &names {
-        calls.extend([create(one), unlink(one)]);
+        calls.extend([create(one), create_folder(ROOT, one), unlink(one)]);
         calls.extend(names.iter().map(|other| link(one, other)));
         calls.extend(names.iter().map(|other| rename(one, other)));
     }
     calls
 }
 
-/// Whether a call would give "." or ".." to a file: as create's name, or as the new name of link or
-/// rename.
+/// Whether a call would give "." or ".." to a file or folder: as create's name, or as the new name of
+/// link or rename.
 pub fn gives_dot_name(call: &Call) -> bool {
     match call {
-        Call::Create { name: new } | Call::Link { new, .. } | Call::Rename { new, .. } => {
-            DOT_NAMES.contains(&&new[..])
-        }
+        Call::Create { name: new, .. }
+        | Call::CreateFolder { name: new, .. }
+        | Call::Link { new, .. }
+        | Call::Rename { new, .. } => DOT_NAMES.contains(&&new[..]),
         _ => false,
     }
 }
 
-/// Which of "." and ".." stand in a map.
+/// Which of "." and ".." stand in inode 0 of a map.
 pub fn standing_dot_names(map: &FileMap) -> Vec<&'static [u8]> {
-    let stands = |name: &&'static [u8]| map.inode_of(name).is_some();
+    let stands = |name: &&'static [u8]| map.inode_of(ROOT, name).is_some();
     DOT_NAMES.into_iter().filter(stands).collect()
 }
 
@@ -101,9 +104,20 @@ pub fn any_call_with_dots(random: &mut Random, inodes: u64, map: &FileMap) -> Ca
     }
     let name = dot_name_or_like(random);
     match call {
-        Call::Create { .. } => create(name),
-        Call::Link { old, .. } => link(&old, name),
-        Call::Rename { old, .. } => rename(&old, name),
+        Call::Create { folder, .. } => create_in(folder, name),
+        Call::CreateFolder { folder, .. } => create_folder(folder, name),
+        Call::Link {
+            old_folder,
+            old,
+            new_folder,
+            ..
+        } => link_in(old_folder, &old, new_folder, name),
+        Call::Rename {
+            old_folder,
+            old,
+            new_folder,
+            ..
+        } => rename_in(old_folder, &old, new_folder, name),
         other => other,
     }
 }
@@ -115,7 +129,7 @@ pub fn any_call_with_dots(random: &mut Random, inodes: u64, map: &FileMap) -> Ca
 ///
 /// let sample = dot_names().find(|sample| sample.title.contains("a 224th name")).unwrap();
 /// let map = map_of(&sample.volume);
-/// assert_eq!(map.names.len(), 224);
+/// assert_eq!(map.names(0).len(), 224);
 /// assert_eq!(standing_dot_names(&map), [&b"."[..], b".."]);
 /// ```
 pub fn dot_names() -> impl Iterator<Item = DotNames> {
@@ -230,7 +244,7 @@ fn open_journals() -> Vec<DotNames> {
     let mut samples = Vec::new();
     for call in [unlink(b"."), rename(b".", b"a")] {
         let list = filled(&volume, &call).expect("the call is done");
-        let tail = tail_word(DIRECTORY);
+        let tail = tail_word(ROOT);
         for (landed, [tail_lands, other_lands]) in [
             ("the tail", [true, false]),
             ("the valid word", [false, true]),

@@ -39,7 +39,7 @@ pub struct Emptied {
     /// How many names stood when the volumes were full.
     pub names: u64,
     /// How often each refusal was answered, by its number.
-    pub refused: [u64; 16],
+    pub refused: [u64; 19],
     /// How often the directory's page was full then, so that create was refused with 15.
     pub create_refused: u64,
     /// How many unlinks took the only free page.
@@ -137,7 +137,7 @@ impl Handheld<'_> {
     }
 
     fn inode(&self, place: usize) -> u64 {
-        (self.library.find)(&self.volume, &self.names[place]).expect("the name stands")
+        (self.library.find)(&self.volume, 0, &self.names[place]).expect("the name stands")
     }
 
     fn size(&self, inode: u64) -> u64 {
@@ -249,7 +249,7 @@ impl Handheld<'_> {
         let answer = (self.library.fill)(&create(&name), &self.volume, &mut list);
         if answer != Err(Refusal::NoInode) {
             let full = room(self.entries) == 0;
-            let expected = if full { Err(Refusal::LastPage) } else { Ok(44) };
+            let expected = if full { Err(Refusal::LastPage) } else { Ok(46) };
             assert_eq!(answer, expected);
             self.counts.create_refused += u64::from(full);
         }
@@ -266,7 +266,7 @@ impl Handheld<'_> {
             self.counts.took_last += u64::from(takes_page && free == 1);
             assert!(self.free() >= free, "the file gives back what unlink takes");
         }
-        let none = (self.library.kth_name)(&self.volume, 0, &mut [0; 32]);
+        let none = (self.library.kth_name)(&self.volume, 0, 0, &mut [0; 32]);
         assert_eq!(none, Err(Refusal::NotThere));
     }
 }

@@ -15,7 +15,7 @@
 //!   clean in no page, in one and in more.
 
 use crate::by_hand::{entry_add, entry_remove, entry_size, entry_write, formatted, put_log, text};
-use crate::calls::{clean, create, link, rename, set_size, unlink, write};
+use crate::calls::{clean, create, create_folder, link, rename, set_size, unlink, write};
 use reference::layout::{tail_word, word};
 use reference::random::Random;
 use reference::{free_count, Call};
@@ -71,8 +71,8 @@ impl FewFree {
     /// let few = FewFree { pages: 16, inodes: 8, free: 1, directory: 7, file: 3, more_names: 0 };
     /// let volume = few.volume(&mut Random::new(1));
     /// let mut list = vec![0; 4_096];
-    /// assert_eq!(create(&volume, b"new", &mut list), Err(Refusal::LastPage));
-    /// assert_eq!(unlink(&volume, b"a", &mut list), Ok(42));
+    /// assert_eq!(create(&volume, 0, b"new", &mut list), Err(Refusal::LastPage));
+    /// assert_eq!(unlink(&volume, 0, b"a", &mut list), Ok(42));
     /// ```
     pub fn volume(&self, random: &mut Random) -> Vec<u8> {
         let mut volume = formatted(self.pages, self.inodes);
@@ -184,6 +184,8 @@ fn calls() -> Vec<Call> {
     let names = [
         create(b"new"),
         create(b"never"),
+        create_folder(0, b"new"),
+        create_folder(0, b"never"),
         link(b"a", b"new"),
         link(b"c", b"new"),
         unlink(b"a"),
@@ -306,7 +308,12 @@ pub fn no_files() -> impl Iterator<Item = LastPage> {
             title: format!("{pages} pages, {free} free, no files, {length} entries: "),
             volume,
             free,
-            calls: vec![create(b"new"), clean(0), Call::Recover],
+            calls: vec![
+                create(b"new"),
+                create_folder(0, b"new"),
+                clean(0),
+                Call::Recover,
+            ],
         })
     })
 }

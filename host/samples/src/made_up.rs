@@ -1,12 +1,12 @@
 //! Volumes put together at random: logs in any pages, anything that an entry allows in their
-//! middle, unread words that hold any number, journals open or closed.
+//! middle, folders beneath folders, unread words that hold any number, journals open or closed.
 
 use crate::by_hand::{entry_add, entry_remove, entry_size, entry_write, numbered, put_log};
 use crate::dot_names::dot_name_or_like;
 use crate::numbers::any_number;
-use reference::layout::{head_word, set_word, tail_word, valid_word, word};
+use reference::layout::{head_word, set_word, tail_word, type_word, valid_word, word, ROOT};
 use reference::random::Random;
-use std::collections::BTreeSet;
+use std::collections::{BTreeMap, BTreeSet};
 
 /// A log entry's eight words.
 type Words = [u64; 8];
@@ -25,7 +25,7 @@ pub fn made_up(random: &mut Random) -> Vec<u8> {
 ///
 /// let mut random = Random::new(1);
 /// let mut volumes = (0..100).map(|_| made_up_with_dots(&mut random));
-/// assert!(volumes.any(|volume| reference::find(&volume, b".").is_ok()));
+/// assert!(volumes.any(|volume| reference::find(&volume, 0, b".").is_ok()));
 /// ```
 pub fn made_up_with_dots(random: &mut Random) -> Vec<u8> {
     let (pages, inodes) = small_sizes(random);
@@ -49,7 +49,8 @@ fn small_sizes(random: &mut Random) -> (u64, u64) {
 }
 
 /// A volume of these sizes, put together at random. Most are accepted; in some a page serves twice, a
-/// file has no name or too many stand, or a log leaves pages behind a file's end.
+/// file has no name or too many stand, a log leaves pages behind a file's end, or a folder lies
+/// beneath itself or has no name or two, or its type is none.
 pub fn made_up_sized(random: &mut Random, pages: u64, inodes: u64) -> Vec<u8> {
     put_together(random, pages, inodes, false)
 }
@@ -71,8 +72,8 @@ fn put_together(random: &mut Random, pages: u64, inodes: u64, dots: bool) -> Vec
     };
     assert_eq!(reference::format(&mut maker.volume, pages, inodes), Ok(()));
     maker.scribble();
-    let files = maker.make_files();
-    maker.make_directory(&files);
+    let (files, folders) = maker.make_files();
+    maker.make_folders(&files, &folders);
     maker.open_journal();
     maker.volume
 }
@@ -147,8 +148,9 @@ impl Maker<'_> {
 
 /// Files.
 impl Maker<'_> {
-    /// Makes files of some inodes, as many as the pages allow; answers their inodes.
-    fn make_files(&mut self) -> Vec<u64> {
+    /// Makes files of some inodes, as many as the pages allow, and leaves pages for folders; answers
+    /// the inodes of both.
+    fn make_files(&mut self) -> (Vec<u64>, Vec<u64>) {
         let times = *self.random.choose(&[1, 2, 2, 6, 40]).unwrap_or(&2);
         let most = if self.goes_wrong() { 256 } else { 224 };
         let room = 7 * self.unused.len().min(1 + self.unused.len() / 3);
@@ -156,7 +158,11 @@ impl Maker<'_> {
             .filter(|_| self.random.once_in(times))
             .collect();
         files.truncate(room.min(most));
-        let kept = files.len().div_ceil(7);
+        let mut kept = files.len().div_ceil(7);
+        let folders = self.choose_folders(&mut files);
+        if !folders.is_empty() {
+            kept += folders.len() + 1;
+        }
         for &inode in &files {
             if self.unused.len() < kept + 4 || self.random.once_in(6) {
                 self.put_log(inode, &[]);
@@ -164,7 +170,22 @@ impl Maker<'_> {
                 self.make_file(inode, kept);
             }
         }
-        files
+        (files, folders)
+    }
+
+    /// In every second volume makes folders of some of these inodes: takes them out and answers them.
+    fn choose_folders(&mut self, files: &mut Vec<u64>) -> Vec<u64> {
+        let mut folders = Vec::new();
+        if self.random.once_in(2) {
+            let most = self.unused.len() / 4;
+            let times = *self.random.choose(&[1, 2, 2, 3, 6]).unwrap_or(&2);
+            files.retain(|&inode| {
+                let chosen = folders.len() < most && self.random.once_in(times);
+                folders.extend(chosen.then_some(inode));
+                !chosen
+            });
+        }
+        folders
     }
 
     /// Makes a file that leaves `kept` pages unused.
@@ -272,31 +293,95 @@ impl Maker<'_> {
     }
 }
 
-/// The directory and the journal.
+/// The folders and the journal.
 impl Maker<'_> {
-    /// Makes the directory's log: any names in the middle, in the end a name or more for each file.
-    fn make_directory(&mut self, files: &[u64]) {
+    /// Makes the logs of the folders and the directory's.
+    fn make_folders(&mut self, files: &[u64], folders: &[u64]) {
+        let mut held = self.place(files, folders);
+        let directory = held.remove(&ROOT).unwrap_or_default();
+        let mut kept: usize = held.values().map(|inodes| inodes.len().div_ceil(7)).sum();
+        for (folder, inodes) in held {
+            let pages = inodes.len().div_ceil(7);
+            kept -= pages;
+            let others = kept + directory.len().div_ceil(7);
+            let spare = self.unused.len().saturating_sub(others).min(pages + 3);
+            let entries = self.entries_of_names(&inodes, files, 7 * spare);
+            self.put_log(folder, &entries);
+            let kind = match self.goes_wrong() && self.random.once_in(4) {
+                true => any_number(self.random),
+                false => 1,
+            };
+            set_word(&mut self.volume, type_word(folder), kind);
+        }
         let room = 7 * self.unused.len();
-        let mut last = self.last_names(files, room);
+        let entries = self.entries_of_names(&directory, files, room);
+        self.put_log(ROOT, &entries);
+    }
+
+    /// Which inodes get a name in each folder and in the directory: a folder in one of those that
+    /// were placed before it, a file in any. On a broken volume a folder may have none or two, or
+    /// lie in any folder.
+    fn place(&mut self, files: &[u64], folders: &[u64]) -> BTreeMap<u64, Vec<u64>> {
+        let mut held: BTreeMap<u64, Vec<u64>> = BTreeMap::from([(ROOT, Vec::new())]);
+        let mut placed = vec![ROOT];
+        let mut left = folders.to_vec();
+        held.extend(left.iter().map(|&inode| (inode, Vec::new())));
+        while !left.is_empty() {
+            let next = self.random.below(left.len() as u64) as usize;
+            let inode = left.swap_remove(next);
+            let above = match self.random.once_in(2) {
+                true => placed.last(),
+                false => self.random.choose(&placed),
+            };
+            let mut above = vec![above.copied().unwrap_or(ROOT)];
+            if self.goes_wrong() && self.random.once_in(3) {
+                let any = self.random.choose(folders).copied();
+                match self.random.below(3) {
+                    0 => above.clear(),
+                    1 => above = any.into_iter().collect(),
+                    _ => above.extend(any),
+                }
+            }
+            for folder in above {
+                held.entry(folder).or_default().push(inode);
+            }
+            placed.push(inode);
+        }
+        for &inode in files {
+            let folder = match self.random.once_in(2) {
+                true => ROOT,
+                false => self.random.choose(&placed).copied().unwrap_or(ROOT),
+            };
+            held.entry(folder).or_default().push(inode);
+        }
+        held
+    }
+
+    /// The entries of a folder's log, at most `room`: any names in the middle, in the end a name for
+    /// each of these inodes and perhaps more for files.
+    fn entries_of_names(&mut self, inodes: &[u64], files: &[u64], room: usize) -> Vec<Words> {
+        let mut last = self.last_names(inodes, files, room);
         let left = (room - last.len().min(room)) / 2;
         let mut entries = self.middle_names(left);
         if self.goes_wrong() {
             last.pop();
         }
         entries.extend(last);
-        self.put_log(0, &entries);
+        entries
     }
 
-    /// Adds for every file, at least one each, in any order; at most 224 or, on a broken volume, 226.
-    fn last_names(&mut self, files: &[u64], room: usize) -> Vec<Words> {
-        let mut inodes = files.to_vec();
+    /// Adds for every one of these inodes, and more for files, in any order; at most 224 or, on a
+    /// broken volume, 226.
+    fn last_names(&mut self, inodes: &[u64], files: &[u64], room: usize) -> Vec<Words> {
+        let mut inodes = inodes.to_vec();
         let most = if self.goes_wrong() { 226 } else { 224 };
         let more = if self.random.once_in(6) {
             most
         } else {
             self.random.below(9) as usize
         };
-        while inodes.len() < (files.len() + more).min(most).min(room) {
+        let count = (inodes.len() + more).min(most).min(room);
+        while inodes.len() < count {
             match self.random.choose(files) {
                 Some(&inode) => inodes.push(inode),
                 None => break,

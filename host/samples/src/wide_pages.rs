@@ -11,10 +11,10 @@
 use crate::by_hand::{
     entry_add, entry_remove, entry_size, entry_write, footer_word, formatted, open_journal, put_log,
 };
-use crate::calls::{clean, create, filled, link, rename, set_size, unlink, write};
+use crate::calls::{clean, create, create_folder, filled, link, rename, set_size, unlink, write};
 use crate::damage::link_words;
 use crate::directory_logs::NOWHERE;
-use reference::layout::{head_word, set_word, tail_word, valid_word, word, Sizes};
+use reference::layout::{head_word, set_word, tail_word, valid_word, word, Sizes, ROOT};
 use reference::{cut, judge, Call, Use, Volume};
 use std::collections::BTreeSet;
 use std::iter::successors;
@@ -123,10 +123,10 @@ pub struct WidePages {
 /// use samples::wide_pages;
 ///
 /// let sample = &wide_pages()[0];
-/// assert_eq!(reference::find(&sample.before, b"a"), Ok(1));
+/// assert_eq!(reference::find(&sample.before, 0, b"a"), Ok(1));
 /// for change in &sample.changes {
 ///     assert!(change.words.iter().all(|word| word.page() >= 65_536));
-///     let found = reference::find(&change.on(&sample.before), b"a");
+///     let found = reference::find(&change.on(&sample.before), 0, b"a");
 ///     assert_eq!(found, if change.read { Err(Refusal::Damaged) } else { Ok(1) });
 /// }
 /// ```
@@ -176,6 +176,7 @@ pub fn wide_pages() -> Vec<WidePages> {
 pub fn calls_on_wide_pages() -> Vec<Call> {
     vec![
         create(b"new"),
+        create_folder(ROOT, b"new"),
         link(b"c", b"new"),
         unlink(b"a"),
         rename(b"a", b"b"),

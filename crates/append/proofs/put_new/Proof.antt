@@ -1,4 +1,4 @@
--- Head and tail are stored where an inode becomes valid.
+-- Head, tail and type are stored where an inode becomes valid.
 use Rattle.model.proofs.Prelude.{needs}
 use Rattle.append.proofs.Parts.{no-other, let-go, new-put}
 use Rattle.append.proofs.put_new.Statement.{statement}
@@ -10,6 +10,8 @@ put-new-spec =
     (tie.spec
     (λ c. (search (no-other, needs), search needs))
     (λ c. (search (let-go, needs), search needs))
+    (λ c κs. search needs)
+    (λ c κs. search needs)
     (λ c κs. search needs)
     (λ c κs. search needs)
     (λ c κs. search needs)

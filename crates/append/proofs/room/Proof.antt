@@ -1,5 +1,4 @@
 -- Each return is a case of room.
-use Rattle.model.proofs.Prelude.{needs}
 use Rattle.append.proofs.Judging.{too-few, last-taken, some-left, none-needed, not-kept}
 use Rattle.append.proofs.room.Statement.{statement}
 use Rattle.append.proofs.room.Tie as tie

@@ -1,6 +1,6 @@
--- An inode that is not there, an empty log, and else the append that writes the log anew.
+-- An empty log, and else the append that writes the log anew.
 use Rattle.model.proofs.Prelude.{refl, needs}
-use Rattle.cleaning.proofs.Anew.{slice-long, log-long, log-readable, clean-absent, inode-low, tail-inside, clean-empty, can-clean, anew-ready, anew-comes}
+use Rattle.cleaning.proofs.Anew.{slice-long, inode-low, tail-inside, clean-empty, anew-ready, anew-comes}
 use Rattle.cleaning.proofs.clean_log.Statement.{statement}
 use Rattle.cleaning.proofs.clean_log.Tie as tie
 
@@ -8,14 +8,11 @@ pub clean-log-spec : {M : Type 1} → statement M
 clean-log-spec =
     tie.close
     (tie.spec
-    (λ c κs. search log-long)
-    (λ c κs. search log-readable)
-    (λ c. search clean-absent)
     (λ c κs. search inode-low)
     (λ c κs. search tail-inside)
     (λ c. search clean-empty)
     (λ c. search needs)
-    (λ c κs. (search can-clean, search needs))
+    (λ c κs. (search, search needs))
     (λ c. search needs)
     (λ c. search needs)
     (λ c. search (slice-long, needs))
@@ -23,12 +20,10 @@ clean-log-spec =
     (λ c. search needs)
     (λ c κs.
     let e = c .before .before .before .before .before in let a = e .before .before .before .before .before in
-    anew-ready _ _ _ _ _ (a .before .before .before .before .before .pre) _ _ (a .before .before .of .ensures .1) _ (a .before .is-valid .ensures)
-    (a .if1 .left) _ refl _ _ (e .clean-entries .ensures .1))
+    anew-ready _ _ _ _ _ _ (a .before .before .pre .0) (a .before .before .pre .1) _ refl _ _ (e .clean-entries .ensures .1))
     (λ c. search needs)
     (λ c.
     let e = c .before .before .before .before .before .before .before .before in let t = e .before .before in
-    let a = t .before .before .before in
-    anew-comes _ _ _ _ _ (a .before .before .before .before .before .pre) _ _ (a .before .before .of .ensures .1) _ (a .before .is-valid .ensures)
-    (a .if1 .left) _ _ (t .before .before .tail-word .ensures) (t .before .word-at .ensures) (t .if2 .left) _ _ _ (e .clean-entries .ensures .0)
-    (e .clean-entries .ensures .1) (search needs) _ refl _ _ (c .before .before .make .ensures)))
+    let s = t .before .before .before .before .before in
+    anew-comes _ _ _ _ _ _ (s .pre .0) (s .pre .1) _ _ (t .before .before .tail-word .ensures) (t .before .word-at .ensures) (t .if1 .left)
+    _ _ _ (e .clean-entries .ensures .0) (e .clean-entries .ensures .1) (search needs) _ refl _ _ (c .before .before .make .ensures)))

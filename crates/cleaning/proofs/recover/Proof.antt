@@ -18,7 +18,7 @@ recover-spec =
     (λ c κs. (search gate-dequeue, search gate-enqueue, search gate-long, omega arith))
     (λ c κs.
     let b = c .before .before .before .before .before .before in
-    let h = gate-long _ _ _ _ _ (b .before .before .judged .ensures) _ (b .enum-told .given .1) in
+    let h = gate-long _ _ _ _ _ _ (b .before .before .judged .ensures) _ (b .enum-told .given .1) in
     omega arith)
     (λ c. search needs)
     (λ c κs. (search close-pairs, omega arith, omega arith))
@@ -26,6 +26,7 @@ recover-spec =
     (λ c.
     let d = c .before .before in let p = d .before .before .before .before .before .before in let o = p .before .before in
     let j = o .before .before .before .before in
-    recover-comes _ _ (j .before .before .before .if1 .left) _ _ _ (j .judged .ensures) _ (o .before .before .enum-told .given .1) _
+    recover-comes _ _ (j .before .before .before .before .if1 .left) _ _ _ _ (j .judged .ensures) _
+    (o .before .before .enum-told .given .1) _
     (o .before .is-open .ensures) (o .if2 .left) _ _ (p .put-back .ensures .0) _ (d .before .before .before .word-at .ensures) _ _
     (d .commit .ensures .0) (d .commit .ensures .1)))

@@ -1,6 +1,6 @@
--- The line of a name, with what its entry and its file say.
-use Rattle.model.proofs.Prelude.{arith, needs}
-use Rattle.listing.proofs.Names.{entry-in, same-file, file-room, file-put}
+-- The line of a name, with what its entry says and its inode counts.
+use Rattle.model.proofs.Prelude.{needs}
+use Rattle.listing.proofs.Names.{entry-in, few-left, inode-below, inode-valid, file-room, file-put}
 use Rattle.listing.proofs.put_file.Statement.{statement}
 use Rattle.listing.proofs.put_file.Tie as tie
 
@@ -9,6 +9,6 @@ put-file-spec =
     tie.close
     (tie.spec
     (λ c κs. (search (entry-in, needs), search needs))
-    (λ c κs. (search needs, search (same-file, needs)))
-    (λ c κs. (search needs, omega (arith, file-room _ _ _ _ _ _ (c .before .before .inode-at .ensures) (c .before .file-size .ensures) _ (c .before .before .before .before .pre .4))))
+    (λ c κs. (search, search few-left, search needs, search inode-below, search inode-valid))
+    (λ c κs. (search needs, search file-room))
     (λ c. search (file-put, needs)))

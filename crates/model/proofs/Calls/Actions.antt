@@ -1,5 +1,5 @@
--- An action with one append: what it checks, stores and commits is that of the append, and the action's own.
-use Rattle.model.proofs.Prelude.{_≡_, refl, fun-ext, ℕ, _-_, Bool, true, false, List, [], _∷_, _++_, append-nil, Option, none, some, arith, add-zero, zero-add, length, getD, ltb-false}
+-- An action with one append or two: what it checks, stores and commits is that of the appends, and the action's own.
+use Rattle.model.proofs.Prelude.{_≡_, refl, fun-ext, ℕ, _-_, Bool, true, false, List, [], _∷_, _++_, append-nil, Option, none, some, _≤_, arith, add-zero, zero-add, length, getD, ltb-false}
 use Rattle.model.specs.Words.{Mem}
 use Rattle.model.specs.Layout.{headWord, tailWord}
 use Rattle.model.specs.Lists.{valuesFrom, lowestFew, indexOf}
@@ -7,7 +7,7 @@ use Rattle.model.specs.Stretches.{stretches}
 use Rattle.model.specs.Accept.{free, freeCount}
 use Rattle.model.specs.FileMap.{FileMap}
 use Rattle.model.specs.Stores.{Stores, noWords, both, onlyIf}
-use Rattle.model.specs.Calls.{Change, Append, layEntries, layPages, tailAfter, pagesFor, commit, entriesOnly, stretchEntries, lowestRun, runOr, lowestPages, dataPages, appended, oldPages, oldSlots, freshPages, freshLog, pagesNeeded, prepared, newTail, ownChanges, allNeeded, allPrepared, allChanges, roomChecks, spaceChecks}
+use Rattle.model.specs.Calls.{Change, Append, layEntries, layPages, tailAfter, pagesFor, commit, entriesOnly, stretchEntries, lowestRun, runOr, lowestPages, dataPages, appended, oldPages, oldSlots, freshPages, freshLog, pagesNeeded, pagesLeft, prepared, newTail, ownChanges, allNeeded, allPrepared, allChanges, roomChecks, spaceChecks}
 use Rattle.model.proofs.Lists.{few-none}
 use Rattle.model.proofs.Frame.Dead.{low, frame}
 use Rattle.model.proofs.Crash.Stores.{first-none}
@@ -33,6 +33,16 @@ module _ (u : Mem) (P : ℕ) (f : ℕ → Bool) (a : Append) where
   pub one-changes : allChanges u P f (a ∷ []) ≡ ownChanges u P f a
   unfolding allChanges
   one-changes = append-nil (ownChanges u P f a)
+
+-- two appends
+module _ (u : Mem) (P : ℕ) (f : ℕ → Bool) (a b : Append) (on-a : a .anew ≡ false) (on-b : b .anew ≡ false) where
+  pub two-prepared : allPrepared u P f (a ∷ b ∷ []) ≡ both (prepared u P f a) (prepared u P (pagesLeft u P f a) b)
+  unfolding allPrepared
+  two-prepared = rw (both-none (prepared u P (pagesLeft u P f a) b))
+
+  pub two-changes : allChanges u P f (a ∷ b ∷ []) ≡ newTail u P f a ∷ newTail u P (pagesLeft u P f a) b ∷ []
+  unfolding allChanges
+  two-changes = rw (changes-on u P f a on-a, changes-on u P (pagesLeft u P f a) b on-b)
 
 -- its pages are there where the checks for room do not hold
 pub room-passed : (u : Mem) (P N : ℕ) (b : Bool) (a : Append) → Passed (spaceChecks u P N b (a ∷ [])) → HasRoom u P N a
@@ -96,12 +106,39 @@ module _ (P N : ℕ) (m : Mem) (r : Ready P N m) where
     abbrev F : ℕ
     F = freeCount m P N - allNeeded m P (free m P N) (a ∷ [])
 
-    pub append-sound : (t : Stores) → Owed P N (freeBehind m P N a) (DeadIn P N) m (both (prepared m P (free m P N) a) t) (newTail m P (free m P N) a ∷ cs) M
+    pub append-sound : (t : Stores) → Owed P N (freeBehind m P N a) (DeadIn P N) m (both (prepared m P (free m P N) a) t)
+        (newTail m P (free m P N) a ∷ cs) M
         → Sound P N F m (commit m (both (allPrepared m P (free m P N) (a ∷ [])) t) (allChanges m P (free m P N) (a ∷ []) ++ cs)) M
     append-sound t o =
-        rw (one-needed m P (free m P N) a, one-prepared m P (free m P N) a, one-changes m P (free m P N) a, changes-on m P (free m P N) a on)
+        rw (
+          one-needed m P (free m P N) a,
+          one-prepared m P (free m P N) a,
+          one-changes m P (free m P N) a,
+          changes-on m P (free m P N) a on,
+        )
         (owed-sound (freeBehind m P N a) _ _ cs M o)
 
     pub plain-sound : Owed P N (freeBehind m P N a) (DeadIn P N) m (prepared m P (free m P N) a) (newTail m P (free m P N) a ∷ cs) M
         → Sound P N F m (commit m (both (allPrepared m P (free m P N) (a ∷ [])) noWords) (allChanges m P (free m P N) (a ∷ []) ++ cs)) M
     plain-sound o = append-sound noWords (rw (both-none (prepared m P (free m P N) a)) o)
+
+  -- two appends
+  pub two-sound : (a b : Append) → a .anew ≡ false → b .anew ≡ false → (cs : List Change) (M : FileMap)
+      → Owed P N (freeCount m P N - allNeeded m P (free m P N) (a ∷ b ∷ [])) (DeadIn P N) m
+      (both (prepared m P (free m P N) a) (prepared m P (pagesLeft m P (free m P N) a) b))
+      (newTail m P (free m P N) a ∷ newTail m P (pagesLeft m P (free m P N) a) b ∷ cs) M
+      → Sound P N (freeCount m P N - allNeeded m P (free m P N) (a ∷ b ∷ [])) m
+      (commit m (both (allPrepared m P (free m P N) (a ∷ b ∷ [])) noWords) (allChanges m P (free m P N) (a ∷ b ∷ []) ++ cs)) M
+  two-sound a b on-a on-b cs M o =
+      rw (
+        two-prepared m P (free m P N) a b on-a on-b,
+        both-none (both (prepared m P (free m P N) a) (prepared m P (pagesLeft m P (free m P N) a) b)),
+        two-changes m P (free m P N) a b on-a on-b,
+      )
+      (owed-sound _ _ _ _ M o)
+
+-- the pages of all appends are there where the checks for room do not hold
+pub all-passed : (u : Mem) (P N : ℕ) (b : Bool) (xs : List Append) → Passed (spaceChecks u P N b xs)
+    → allNeeded u P (free u P N) xs ≤ freeCount u P N
+unfolding spaceChecks roomChecks
+all-passed u P N b xs p = ltb-false (freeCount u P N) (allNeeded u P (free u P N) xs) (p .0)

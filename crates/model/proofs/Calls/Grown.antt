@@ -1,16 +1,18 @@
--- An append, whoever makes it: the view after it is fine if its entries are ones that its log may hold and the file or the names they come to are
--- fine, the pages that it did not take are still free, and all that it stores lies inside the volume.
-use Rattle.model.proofs.Prelude.{_≡_, ℕ, _+_, _-_, _/_, _^_, _≤_, _<_, Bool, true, cond, List, _++_, map, arith, le-of-eq, getD, eqb, leb-true}
-use Rattle.model.specs.Lists.{all, foldl, count}
+-- An append, whoever makes it: its inode is fine after it if its entries are ones that its log may hold and the file they come to is fine,
+-- it takes no more pages than it needs, and all that it stores lies inside the volume.
+use Rattle.model.proofs.Prelude.{_≡_, ℕ, _+_, _-_, _/_, _^_, _≤_, _<_, Bool, true, false, cond, List, _++_, map, arith, le-of-eq, getD, eqb, leb-true}
+use Rattle.model.specs.Lists.{sumBelow, all, foldl, count}
 use Rattle.model.specs.Words.{Mem}
-use Rattle.model.specs.Layout.{sizesOk, headWord, tailWord, root, isDirectory}
+use Rattle.model.specs.Layout.{sizesOk, headWord, tailWord, isDirectory}
 use Rattle.model.specs.Entry.{fileEntryOk, nameEntryOk}
 use Rattle.model.specs.Log.{tailSlots}
 use Rattle.model.specs.State.{fileOf, nameStep, namesOf}
-use Rattle.model.specs.Accept.{free, freeCount, mappedTo, namesOk, endOk}
+use Rattle.model.specs.Accept.{free, freeCount, mappedTo, endOk}
 use Rattle.model.specs.Stores.{Stores}
 use Rattle.model.specs.Calls.{Change, Append, tailPages, dataPages, appended, freshPages, freshLog, pagesNeeded, prepared, newTail}
 use Rattle.model.proofs.Tests.{ands}
+use Rattle.model.proofs.Lists.{sumBelow-add}
+use Rattle.model.proofs.Counting.{count-sum}
 use Rattle.model.proofs.Log.Decode.{decode}
 use Rattle.model.proofs.Log.Append.{tail-inside, file-after, names-after, count-after, ok-after}
 use Rattle.model.proofs.Frame.Placed.{sizes-whole}
@@ -19,9 +21,9 @@ use Rattle.model.proofs.Frame.Dead.{Dead}
 use Rattle.model.proofs.State.Append.{Filled, fileAfter}
 use Rattle.model.proofs.Crash.Stores.{Each, only-both, only-if, only-word}
 use Rattle.model.proofs.Crash.Commit.{committed}
-use Rattle.model.proofs.Calls.Room.{free-bounds, fresh-at, room-lone, pages-in, pages-value}
-use Rattle.model.proofs.Calls.Changed.{After, Changed, changed-free}
-use Rattle.model.proofs.Calls.Stored.{Stored, file-words, Appends, fits, reads-after, data-stored, valid-after, prepared-on, tail-on}
+use Rattle.model.proofs.Calls.Room.{free-bounds, fresh-at, Lone, room-lone, pages-in, pages-value}
+use Rattle.model.proofs.Calls.Changed.{Grew}
+use Rattle.model.proofs.Calls.Stored.{Stored, directory-same, type-fine, file-words, Appends, fits, reads-after, data-stored, valid-after, prepared-on, tail-on}
 use Rattle.model.proofs.Calls.Small.{Inside, SmallEntries, page-small, tail-small, lay-small}
 
 pub few-pages : (P N : ℕ) → sizesOk P N ≡ true → (P ≤ 4096) × (N ≤ 256) × (N / 8 + 4 ≤ P)
@@ -36,12 +38,9 @@ freeBehind m P N a = freeCount m P N - pagesNeeded m P (free m P N) a
 abbrev pub DeadIn : ℕ → ℕ → Mem → ℕ → Type 0
 DeadIn P N u w = Dead u P N w
 
-module _ {m : Mem} {P N : ℕ} {a : Append} {s : Stores} {cs : List Change} (c : Appends m P N a s cs) where
+module _ {m : Mem} {P N : ℕ} {f : ℕ → Bool} {a : Append} {s : Stores} {cs : List Change} (c : Appends m P N f a s cs) where
   open Appends c using (did, room, below, valid)
   open Stored (c .did) using (sizes, ok)
-
-  abbrev f : ℕ → Bool
-  f = free m P N
 
   abbrev ds : List ℕ
   ds = dataPages m P f a
@@ -58,32 +57,41 @@ module _ {m : Mem} {P N : ℕ} {a : Append} {s : Stores} {cs : List Change} (c :
   grown-names = names-after (fits c) now (reads-after c)
 
   -- what changes by it
-  pub grown-changed : cond (isDirectory m (a .log)) (all (nameEntryOk N) (map decode (appended m P f a))) (all (fileEntryOk P N) (map decode (appended m P f a))) ≡ true
-      → ((a .log ≡ 0 → ⊥) → (p : ℕ) → (p ≡ 0 → ⊥) → mappedTo (fileOf now P N (a .log)) p ≤ mappedTo (fileOf m P N (a .log)) p + count p ds)
-      → ((a .log ≡ 0 → ⊥) → endOk now (fileOf now P N (a .log)) ≡ true)
-      → ((i : ℕ) → i < N → (i ≡ a .log → ⊥) → After m now P N i)
-      → namesOk now N (namesOf now P N root) ≡ true → Changed m now P N (a .log) (freshLog m P f a) (λ p. count p ds)
-  grown-changed entries-ok maps ends others names =
+  pub grown : cond (isDirectory m (a .log)) (all (nameEntryOk N) (map decode (appended m P f a)))
+      (all (fileEntryOk P N) (map decode (appended m P f a))) ≡ true
+      → (isDirectory m (a .log) ≡ false → (p : ℕ) → (p ≡ 0 → ⊥)
+      → mappedTo (fileOf now P N (a .log)) p ≤ mappedTo (fileOf m P N (a .log)) p + count p ds)
+      → (isDirectory m (a .log) ≡ false → endOk now (fileOf now P N (a .log)) ≡ true)
+      → Grew m now P N (a .log) (freshLog m P f a) (λ p. count p ds)
+  grown entries-ok maps ends =
       record {
-        was-fine = ok;
+        below = below;
         was-valid = valid;
         is-valid = valid-after c;
-        log-fine = ok-after (fits c) now (reads-after c) (log-ok m P N ok (a .log) below valid) entries-ok;
+        same-type = directory-same did (a .log) below valid;
+        type-fine = type-fine did (a .log) below valid;
+        log-fine =
+            ok-after (fits c) now (reads-after c) (directory-same did (a .log) below valid)
+            (log-ok m P N ok (a .log) below valid) entries-ok;
         longer = λ p. le-of-eq (count-after (fits c) now (reads-after c) p);
-        lone = room-lone m P N ds (a .count) (freshLog m P f a) (freshPages m P f a) room;
         maps = maps;
         ends = ends;
-        others = others;
-        names = names;
       }
 
-  -- and how many pages are free then
-  pub grown-free : Changed m now P N (a .log) (freshLog m P f a) (λ p. count p ds) → freeBehind m P N a ≤ freeCount now P N
+  -- the pages that it takes are lone
+  pub grown-lone : Lone m P N (λ p. count p (freshLog m P f a) + count p ds)
+  grown-lone = room-lone m P N ds (a .count) (freshLog m P f a) (freshPages m P f a) room
+
+  -- they are as many as it needs
+  pub grown-taken : sumBelow P (λ p. count p (freshLog m P f a) + count p ds) ≤ pagesNeeded m P f a
   unfolding pagesNeeded
-  grown-free h = omega (arith, changed-free ds h, room .for-log .number, room .for-data .number)
+  grown-taken =
+      let ls = freshLog m P f a in
+      let both = sumBelow-add P (λ p. count p ls + count p ds) (λ p. count p ls) (λ p. count p ds) (λ p l. omega arith) in
+      omega (arith, count-sum P ls, count-sum P ds, room .for-log .number, room .for-data .number)
 
   -- what stands in it for a file
-  pub grown-filled : (a .log ≡ 0 → ⊥) → Filled m now P N a ds
+  pub grown-filled : isDirectory m (a .log) ≡ false → Filled m now P N a ds
   grown-filled n = record {
     number = room .for-data .number;
     places = λ j l. free-bounds m P N (getD ds j 0) (fresh-at m P N ds (a .count) (room .for-data) j l);

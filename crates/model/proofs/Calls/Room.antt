@@ -1,10 +1,10 @@
 -- The free pages that a call takes: each once, and serving nobody. That is what the searches find where refusal 12 does not hold.
-use Rattle.model.proofs.Prelude.{_≡_, refl, sym, _∙_, _⊎_, inl, inr, ℕ, _+_, _*_, _/_, _%_, _≤_, _<_, true, false, List, [], none, some, arith, length, getD, ltb, eqb-true, not-true, le-ltb, lt-ltb}
-use Rattle.model.specs.Lists.{has, count, indexOf, distinct}
+use Rattle.model.proofs.Prelude.{_≡_, refl, sym, _∙_, _⊎_, inl, inr, ℕ, _+_, _*_, _/_, _%_, _≤_, _<_, Bool, true, false, List, [], none, some, arith, length, getD, ltb, eqb-true, not-true, le-ltb, lt-ltb}
+use Rattle.model.specs.Lists.{bit, sumBelow, has, count, indexOf, distinct}
 use Rattle.model.specs.Words.{Mem}
 use Rattle.model.specs.Layout.{inPages}
 use Rattle.model.specs.Accept.{uses, free, freeCount}
-use Rattle.model.specs.Calls.{Append, layPages, besides, dataPages, freshPages, freshLog, pagesNeeded}
+use Rattle.model.specs.Calls.{Append, layPages, besides, dataPages, freshPages, freshLog, pagesNeeded, pagesLeft}
 use Rattle.model.proofs.Tests.{by-bool, no, not-some, ands, cond-some}
 use Rattle.model.proofs.Lists.{few-holds, few-distinct, has-getD, index-none, index-getD, count-none, count-once}
 use Rattle.model.proofs.Frame.Placed.{in-bounds, zero-outside}
@@ -47,32 +47,50 @@ module _ (u : Mem) (P N : ℕ) where
   pub fresh-at : (ls : List ℕ) (n : ℕ) → Fresh u P N ls n → (i : ℕ) → i < n → free u P N (getD ls i 0) ≡ true
   fresh-at ls n f i l = f .unused (getD ls i 0) (has-getD ls i (omega (arith, f .number)))
 
-  -- the pages of an append that is not refused with 12
-  pub room-found : (a : Append) → HasRoom u P N a
-      → Room u P N (dataPages u P (free u P N) a) (a .count) (freshLog u P (free u P N) a) (freshPages u P (free u P N) a)
-  unfolding freshLog dataPages besides freeCount
-  room-found a e =
-      let f = free u P N in
-      let b : (p : ℕ) → f p ≡ true → p < P = λ p h. free-bounds p h .1 in
+  -- the pages of an append that has room, where f says which free pages may be taken
+  pub room-in : (f : ℕ → Bool) → ((p : ℕ) → f p ≡ true → free u P N p ≡ true) → (a : Append)
+      → pagesNeeded u P f a ≤ sumBelow P (λ p. bit (f p))
+      → Room u P N (dataPages u P f a) (a .count) (freshLog u P f a) (freshPages u P f a)
+  unfolding freshLog dataPages besides
+  room-in f may a e =
+      let b : (p : ℕ) → f p ≡ true → p < P = λ p h. free-bounds p (may p h) .1 in
       let ds = dataPages u P f a in
       let q = freshPages u P f a in
       let c = a .count in
       record {
-        for-data = record { number = enough-data u P f a b e; apart = pages-apart f P b c; unused = λ x h. pages-hold f P b c x h .0 };
+        for-data =
+            record { number = enough-data u P f a b e; apart = pages-apart f P b c; unused = λ x h. may x (pages-hold f P b c x h .0) };
         for-log = record {
           number = enough-log u P f a b e;
           apart = few-distinct (besides f ds) P 0 q;
-          unused = λ x h. let g = few-holds (besides f ds) P 0 q x h .0 in search ands;
+          unused = λ x h. let g = few-holds (besides f ds) P 0 q x h .0 in may x (search ands);
         };
         beside = λ x h. let g = few-holds (besides f ds) P 0 q x h .0 in not-true (has x ds) (search ands);
       }
+
+  -- the pages of the one append of a call that is not refused with 12
+  pub room-found : (a : Append) → HasRoom u P N a
+      → Room u P N (dataPages u P (free u P N) a) (a .count) (freshLog u P (free u P N) a) (freshPages u P (free u P N) a)
+  unfolding freeCount
+  room-found a e = room-in (free u P N) (λ p h. h) a e
+
+  -- the pages left by an append may be taken where they could before, and are none of its own
+  pub left-may : (f : ℕ → Bool) (a : Append) (p : ℕ) → pagesLeft u P f a p ≡ true → (f p ≡ true) × (has p (freshLog u P f a) ≡ false)
+  unfolding pagesLeft besides
+  left-may f a p e = (search ands, not-true (has p (freshLog u P f a)) (search ands))
+
+  -- fresh log pages are ones that may be taken
+  pub fresh-may : (f : ℕ → Bool) (a : Append) (p : ℕ) → has p (freshLog u P f a) ≡ true → f p ≡ true
+  unfolding freshLog besides
+  fresh-may f a p h = let g = few-holds (besides f (dataPages u P f a)) P 0 (freshPages u P f a) p h .0 in search ands
 
 -- Pages that a call takes: e p is how often it takes page p, once at most, and only where p is free.
 abbrev pub Lone : Mem → ℕ → ℕ → (ℕ → ℕ) → Type 0
 Lone u P N e = (p : ℕ) → (e p ≡ 0) ⊎ ((free u P N p ≡ true) × (e p ≤ 1))
 
 -- fresh log pages and the data pages beside them are such pages
-pub room-lone : (u : Mem) (P N : ℕ) (ds : List ℕ) (c : ℕ) (ls : List ℕ) (n : ℕ) → Room u P N ds c ls n → Lone u P N (λ p. count p ls + count p ds)
+pub room-lone : (u : Mem) (P N : ℕ) (ds : List ℕ) (c : ℕ) (ls : List ℕ) (n : ℕ) → Room u P N ds c ls n
+    → Lone u P N (λ p. count p ls + count p ds)
 room-lone u P N ds c ls n r p =
     by-bool (has p ls)
     (λ h.

@@ -1,9 +1,9 @@
 -- What a call stores before its commit: words that no reading looks at, outside page 0. Free pages, the words past a tail, the head of an
--- empty log, and head and tail of an invalid inode are such words.
-use Rattle.model.proofs.Prelude.{_≡_, refl, _⊎_, inl, inr, ⊎-elim, ℕ, _+_, _-_, _/_, _≤_, _<_, Bool, true, false, cond, _&&_, not, List, [], _∷_, _++_, arith, eqb, eqb-true, eq-eqb, ne-eqb}
+-- empty log, and head, tail and type of an invalid inode are such words.
+use Rattle.model.proofs.Prelude.{_≡_, refl, inl, inr, ⊎-elim, ℕ, _/_, _≤_, _<_, Bool, true, false, cond, _&&_, not, List, [], _∷_, _++_, arith, eqb, eqb-true, eq-eqb, ne-eqb}
 use Rattle.model.specs.Lists.{has}
 use Rattle.model.specs.Words.{Mem}
-use Rattle.model.specs.Layout.{headWord, tailWord}
+use Rattle.model.specs.Layout.{headWord, tailWord, typeWord}
 use Rattle.model.specs.Log.{tailSlots}
 use Rattle.model.specs.Accept.{isValid, free, viewOk}
 use Rattle.model.specs.Stores.{Stores, oneWord, both, onlyIf}
@@ -15,7 +15,7 @@ use Rattle.model.proofs.Log.Live.{lay-in, lay-first}
 use Rattle.model.proofs.Frame.Placed.{in-bounds}
 use Rattle.model.proofs.Frame.Inode.{full, page-in, tail-page}
 use Rattle.model.proofs.Frame.View.{log-ok}
-use Rattle.model.proofs.Frame.Dead.{Dead, inFree, pastTail, head, tail}
+use Rattle.model.proofs.Frame.Dead.{Dead, inFree, pastTail, head, tail, type}
 use Rattle.model.proofs.Crash.Stores.{Only, only-both, only-if, only-word}
 use Rattle.model.proofs.Calls.Room.{free-bounds, Room, pages-in}
 
@@ -36,12 +36,15 @@ module _ (u : Mem) (P N : ℕ) where
   still-pages : (ds : List ℕ) (f : ℕ → ℕ) → ((x : ℕ) → has x ds ≡ true → free u P N x ≡ true) → Only (Still u P N) (layPages ds f)
   still-pages ds f g w x e = still-free w (g (w / 64) (pages-in ds f w x e))
 
-  -- head and tail of an invalid inode
-  pub still-inode : (i x y : ℕ) → i < N → isValid u i ≡ false → Only (Still u P N) (both (oneWord (headWord i) x) (oneWord (tailWord i) y))
-  still-inode i x y l v =
+  -- head, tail and type of an invalid inode
+  pub still-inode : (i x y t : ℕ) → i < N → isValid u i ≡ false
+      → Only (Still u P N) (both (oneWord (headWord i) x) (both (oneWord (tailWord i) y) (oneWord (typeWord i) t)))
+  still-inode i x y t l v =
       only-both
       (only-word (λ w x. Still u P N w) (headWord i) x (head i l refl (inl v), omega arith))
+      (only-both
       (only-word (λ w x. Still u P N w) (tailWord i) y (tail i l refl v, omega arith))
+      (only-word (λ w x. Still u P N w) (typeWord i) t (type i l refl (inl v), omega arith)))
 
   module _ (ok : viewOk u P N ≡ true) (k : ℕ) (l : k < N) (v : isValid u k ≡ true) where
     -- entries laid behind a log
@@ -68,13 +71,13 @@ module _ (u : Mem) (P N : ℕ) where
     still-log true ls es x f s g = only-both (still-lay ls 0 es f) (only-both (only-if false (λ t. no t)) g)
     still-log false ls es x f s g =
         only-both (still-behind ls es f) (only-both
-        (only-if (eqb (u (tailWord k)) 0) (λ t. only-word (λ w x. Still u P N w) (headWord k) x (head k l refl (inr (eqb-true _ _ t)), omega arith))) g)
+        (only-if (eqb (u (tailWord k)) 0)
+        (λ t. only-word (λ w x. Still u P N w) (headWord k) x (head k l refl (inr (eqb-true _ _ t)), omega arith))) g)
 
-  -- the first group of an append
-  pub still-prepared : viewOk u P N ≡ true → (a : Append) → a .log < N → isValid u (a .log) ≡ true
-      → Room u P N (dataPages u P (free u P N) a) (a .count) (freshLog u P (free u P N) a) (freshPages u P (free u P N) a)
-      → Only (Still u P N) (prepared u P (free u P N) a)
+  -- the first group of an append, which takes pages of which f holds
+  pub still-prepared : viewOk u P N ≡ true → (f : ℕ → Bool) (a : Append) → a .log < N → isValid u (a .log) ≡ true
+      → Room u P N (dataPages u P f a) (a .count) (freshLog u P f a) (freshPages u P f a) → Only (Still u P N) (prepared u P f a)
   unfolding prepared oldPages oldSlots
-  still-prepared ok a l v r =
-      still-log ok (a .log) l v (a .anew) (freshLog u P (free u P N) a) (appended u P (free u P N) a) _ (r .for-log .unused)
-      _ (still-pages (dataPages u P (free u P N) a) (a .words) (r .for-data .unused))
+  still-prepared ok f a l v r =
+      still-log ok (a .log) l v (a .anew) (freshLog u P f a) (appended u P f a) _ (r .for-log .unused)
+      _ (still-pages (dataPages u P f a) (a .words) (r .for-data .unused))

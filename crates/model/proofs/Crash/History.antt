@@ -1,15 +1,16 @@
--- From one call to a whole history: where each call's groups are sound, every event leaves an accepted volume with the map that is demanded.
--- By induction over the events; what is kept from one to the next is that the volume is accepted, its journal open or closed, and made of bytes.
+-- From one call to a whole history: where each call's groups are sound, every event leaves an accepted volume with the map that is
+-- demanded. By induction over the events; what is kept from one to the next is that the volume is accepted, its journal open or closed, and
+-- made of bytes.
 use Rattle.model.proofs.Prelude.{_≡_, refl, sym, _∙_, ap, _⊎_, ⊎-elim, ⊎-map, ℕ, _-_, _*_, _^_, _≤_, _<_, Bool, true, false, cond, _&&_, not, List, [], _∷_, arith, sub-zero, length, le-ltb, ltb-false, eq-eqb, ne-eqb}
 use Rattle.model.specs.Words.{Mem, word}
-use Rattle.model.specs.Layout.{sizesOk, root, listWords}
+use Rattle.model.specs.Layout.{sizesOk, listWords}
 use Rattle.model.specs.Stores.{Stores, storeList}
 use Rattle.model.specs.Journal.{isOpen, view}
 use Rattle.model.specs.Accept.{free, freeCount, viewOk, accepted}
-use Rattle.model.specs.FileMap.{mapOf, mapAfter, Call, create, link, unlink, rename, write, setSize, clean, recover}
+use Rattle.model.specs.FileMap.{mapOf, mapAfter, Call, create, createFolder, link, unlink, rename, write, setSize, clean, recover}
 use Rattle.model.specs.Power.{Power, held, cut, leaves}
 use Rattle.model.specs.Answer.{Answer, refused, done, Checks, firstRefusal}
-use Rattle.model.specs.Calls.{Append, Action, actionChecks, actionGroups, roomChecks, spaceChecks, allNeeded, createAction, linkAction, unlinkAction, renameAction, writeAction, sizeAction, cleanAction, recoverAction, action, checks, groups}
+use Rattle.model.specs.Calls.{Append, Action, actionChecks, actionGroups, roomChecks, spaceChecks, allNeeded, createAction, linkAction, unlinkAction, renameAction, fileChecks, writeAction, sizeAction, cleanAction, recoverAction, action, checks, groups}
 use Rattle.model.specs.Public.{isVolume, isAccepted, needsClosed, volumeChecks, callChecks, fills}
 use Rattle.model.specs.Claim.{Bytes, CallBytes, Event, History, HistoryBytes, answerTo, landing, volumeAfter, mapIn, Demanded, Kept, ThirdDemand}
 use Rattle.model.specs.Promises.{mayTakeLast, freeIn, PageKept}
@@ -43,13 +44,15 @@ SafeCall c =
 
 -- The same of a call that wants a closed journal, with its action a: the memory is its own view.
 abbrev pub Duty : ℕ → ℕ → Mem → Call → Action → Type 0
-Duty P N m c a = CallBytes c → Passed (actionChecks m P N a) → Sound P N (freeAfter m P N a) m (actionGroups m P N a) (mapAfter N c (mapOf m P N))
+Duty P N m c a =
+    CallBytes c → Passed (actionChecks m P N a) → Sound P N (freeAfter m P N a) m (actionGroups m P N a) (mapAfter N c (mapOf m P N))
 
 pub record Duties (P N : ℕ) (m : Mem) : Type 0 where
-  pub create-duty : (n : List ℕ) → Duty P N m (create n) (createAction m P N root n)
-  pub link-duty : (a b : List ℕ) → Duty P N m (link a b) (linkAction m P N root a b)
-  pub unlink-duty : (n : List ℕ) → Duty P N m (unlink n) (unlinkAction m P N root n)
-  pub rename-duty : (a b : List ℕ) → Duty P N m (rename a b) (renameAction m P N root a b)
+  pub create-duty : (d : ℕ) (n : List ℕ) → Duty P N m (create d n) (createAction m P N 0 d n)
+  pub create-folder-duty : (d : ℕ) (n : List ℕ) → Duty P N m (createFolder d n) (createAction m P N 1 d n)
+  pub link-duty : (d : ℕ) (a : List ℕ) (e : ℕ) (b : List ℕ) → Duty P N m (link d a e b) (linkAction m P N d a e b)
+  pub unlink-duty : (d : ℕ) (n : List ℕ) → Duty P N m (unlink d n) (unlinkAction m P N d n)
+  pub rename-duty : (d : ℕ) (a : List ℕ) (e : ℕ) (b : List ℕ) → Duty P N m (rename d a e b) (renameAction m P N d a e b)
   pub write-duty : (k o : ℕ) (bs : List ℕ) → Duty P N m (write k o bs) (writeAction m P N k o bs)
   pub size-duty : (k s : ℕ) → Duty P N m (setSize k s) (sizeAction m P N k s)
   pub clean-duty : (k : ℕ) → Duty P N m (clean k) (cleanAction m P N k)
@@ -64,10 +67,13 @@ module _ (Dead : ℕ → ℕ → Mem → ℕ → Type 0)
 
   pub calls-safe : (c : Call) → SafeCall c
   unfolding checks groups action mapAfter allNeeded recoverAction
-  calls-safe (create n) P N m s a w b o p = rw (closed-view m o) (owed P N m s a w o .create-duty n b (rw (closed-view m o) at p))
-  calls-safe (link x y) P N m s a w b o p = rw (closed-view m o) (owed P N m s a w o .link-duty x y b (rw (closed-view m o) at p))
-  calls-safe (unlink n) P N m s a w b o p = rw (closed-view m o) (owed P N m s a w o .unlink-duty n b (rw (closed-view m o) at p))
-  calls-safe (rename x y) P N m s a w b o p = rw (closed-view m o) (owed P N m s a w o .rename-duty x y b (rw (closed-view m o) at p))
+  calls-safe (create d n) P N m s a w b o p = rw (closed-view m o) (owed P N m s a w o .create-duty d n b (rw (closed-view m o) at p))
+  calls-safe (createFolder d n) P N m s a w b o p =
+      rw (closed-view m o) (owed P N m s a w o .create-folder-duty d n b (rw (closed-view m o) at p))
+  calls-safe (link d x e y) P N m s a w b o p = rw (closed-view m o) (owed P N m s a w o .link-duty d x e y b (rw (closed-view m o) at p))
+  calls-safe (unlink d n) P N m s a w b o p = rw (closed-view m o) (owed P N m s a w o .unlink-duty d n b (rw (closed-view m o) at p))
+  calls-safe (rename d x e y) P N m s a w b o p =
+      rw (closed-view m o) (owed P N m s a w o .rename-duty d x e y b (rw (closed-view m o) at p))
   calls-safe (write k x bs) P N m s a w b o p = rw (closed-view m o) (owed P N m s a w o .write-duty k x bs b (rw (closed-view m o) at p))
   calls-safe (setSize k x) P N m s a w b o p = rw (closed-view m o) (owed P N m s a w o .size-duty k x b (rw (closed-view m o) at p))
   calls-safe (clean k) P N m s a w b o p = rw (closed-view m o) (owed P N m s a w o .clean-duty k b (rw (closed-view m o) at p))
@@ -92,13 +98,16 @@ module _ (u : Mem) (P N : ℕ) (some-free : 1 ≤ freeCount u P N) where
 
 page-left : (c : Call) (m : Mem) (P N : ℕ) → mayTakeLast c ≡ false → 1 ≤ freeCount (view m) P N → Passed (checks m P N c)
     → 1 ≤ freeAfter (view m) P N (action m P N c)
-unfolding checks action actionChecks createAction linkAction writeAction sizeAction recoverAction allNeeded
-page-left (create n) m P N k l p = room-kept (view m) P N l _ (p .1 .1 .1 .1)
-page-left (link a b) m P N k l p = room-kept (view m) P N l _ (p .1 .1 .1 .1)
-page-left (unlink n) m P N k l p = no (sym k)
-page-left (rename a b) m P N k l p = no (sym k)
-page-left (write i o bs) m P N k l p = let a = writeAction (view m) P N i o bs in maybe-kept (view m) P N l (a .unchanged) (a .appends) (p .1 .1 .1)
-page-left (setSize i s) m P N k l p = let a = sizeAction (view m) P N i s in maybe-kept (view m) P N l (a .unchanged) (a .appends) (p .1 .1)
+unfolding checks action actionChecks createAction linkAction writeAction sizeAction fileChecks recoverAction allNeeded
+page-left (create d n) m P N k l p = room-kept (view m) P N l _ (p .1 .1 .1 .1 .1 .1)
+page-left (createFolder d n) m P N k l p = room-kept (view m) P N l _ (p .1 .1 .1 .1 .1 .1)
+page-left (link d a e b) m P N k l p = room-kept (view m) P N l _ (p .1 .1 .1 .1 .1)
+page-left (unlink d n) m P N k l p = no (sym k)
+page-left (rename d a e b) m P N k l p = no (sym k)
+page-left (write i o bs) m P N k l p =
+    let a = writeAction (view m) P N i o bs in maybe-kept (view m) P N l (a .unchanged) (a .appends) (p .1 .1 .1 .1)
+page-left (setSize i s) m P N k l p =
+    let a = sizeAction (view m) P N i s in maybe-kept (view m) P N l (a .unchanged) (a .appends) (p .1 .1 .1)
 page-left (clean i) m P N k l p = no (sym k)
 page-left recover m P N k l p = by-bool (isOpen m) (λ e. rw e (omega arith)) (λ e. rw e (omega arith))
 

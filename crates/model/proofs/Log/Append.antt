@@ -47,11 +47,13 @@ module _ {u : Mem} {P N k : ℕ} {old ls : List ℕ} {es : List (List ℕ)} (f :
       unfolding pages
       count-after p = rw (pages, now .0, f .was) (count-append p old ls)
 
-      pub ok-after : logOk u P N k ≡ true
-          → cond (isDirectory u k) (all (nameEntryOk N) (map decode es)) (all (fileEntryOk P N) (map decode es)) ≡ true → logOk u′ P N k ≡ true
+      pub ok-after : isDirectory u′ k ≡ isDirectory u k → logOk u P N k ≡ true
+          → cond (isDirectory u k) (all (nameEntryOk N) (map decode es)) (all (fileEntryOk P N) (map decode es)) ≡ true
+          → logOk u′ P N k ≡ true
       unfolding logOk
-      ok-after a b =
-          let g : cond (isDirectory u k) (all (nameEntryOk N) (entries u P N k)) (all (fileEntryOk P N) (entries u P N k)) ≡ true = search ands in
-          rw (logOk, now .0, now .1) (by-bool (isDirectory u k)
+      ok-after i a b =
+          let g : cond (isDirectory u k) (all (nameEntryOk N) (entries u P N k)) (all (fileEntryOk P N) (entries u P N k)) ≡ true =
+          search ands in
+          rw (logOk, now .0, now .1, i) (by-bool (isDirectory u k)
           (λ d. rw d (all-append (nameEntryOk N) (entries u P N k) (map decode es) (rw d at g) (rw d at b)))
           (λ d. rw d (all-append (fileEntryOk P N) (entries u P N k) (map decode es) (rw d at g) (rw d at b))))

@@ -1,19 +1,19 @@
--- The names that a directory's entries come to: each is a name of an accepted entry, and the entries that calls write come to the names they should.
-use Rattle.model.proofs.Prelude.{_≡_, refl, sym, _∙_, ap, ℕ, _+_, _≤_, _<_, true, false, List, [], _∷_, _++_, map, append-assoc, append-nil, arith, take, eqb, leb-true, ltb-true}
-use Rattle.model.specs.Lists.{all, filter, foldl, count}
+-- The names that a directory's entries come to: each is a name of an accepted entry, and the entries that calls write come to the names
+-- they should.
+use Rattle.model.proofs.Prelude.{_≡_, refl, sym, _∙_, ap, ℕ, _+_, _≤_, _<_, true, false, List, [], _∷_, _++_, map, append-assoc, append-nil, take, eqb, leb-true, ltb-true}
+use Rattle.model.specs.Lists.{all, filter, foldl}
 use Rattle.model.specs.Words.{Mem}
 use Rattle.model.specs.Layout.{isDirectory}
 use Rattle.model.specs.Entry.{Entry, writeEntry, sizeEntry, addEntry, removeEntry, noEntry, entryAt, nameOk, fieldOk, nameEntryOk, addWords, removeWords}
 use Rattle.model.specs.Log.{pages, tailSlots, entryWords, entries}
-use Rattle.model.specs.State.{Names, isNamed, without, withName, nameStep, namesOf, inodeOf, inodes}
+use Rattle.model.specs.State.{Names, isNamed, without, withName, nameStep, namesOf, inodeOf}
 use Rattle.model.specs.Accept.{logOk}
 use Rattle.model.specs.Calls.{cleanNames}
 use Rattle.model.specs.Claim.{Bytes}
-use Rattle.model.proofs.Tests.{by-bool, by-eq, ands, bit-other}
+use Rattle.model.proofs.Tests.{by-bool, ands}
 use Rattle.model.proofs.Lists.{all-cons, same-true, same-sym}
 use Rattle.model.proofs.Log.Decode.{decode, decode-add, decode-remove, take-padded, name-short, add-ok, remove-ok, bytes-take, bytes-field}
 use Rattle.model.proofs.State.Names.{standsIn, DistinctNames, without-same, without-other, not-in, without-absent, distinct-fold}
-use Rattle.model.proofs.State.NamesFine.{NamesIn}
 
 -- Names of accepted entries.
 
@@ -71,18 +71,13 @@ good-fold u N (w ∷ ws) ns e g =
     let c = all-cons (nameEntryOk N) (entryAt u w) (map (entryAt u) ws) e in
     good-fold u N ws (nameStep ns (entryAt u w)) (c .1) (good-step N ns (entryAt u w) (entry-bytes u w) (c .0) g)
 
-good-inode : (N : ℕ) (ns : Names) (k : ℕ) → GoodNames N ns → 1 ≤ count k (inodes ns) → (1 ≤ k) × (k < N)
-unfolding count
-good-inode N [] k g c = absurd (omega arith)
-good-inode N (p ∷ ps) k g c =
-    by-eq k (p .1) (λ e. rw e (g .0 .first, g .0 .below)) (λ e. let b = bit-other k (p .1) e in good-inode N ps k (g .1) (omega arith))
-
 -- a name that stands is one that may stand
 pub standing-ok : (N : ℕ) (ns : Names) → GoodNames N ns → (n : List ℕ) → (inodeOf ns n ≡ 0 → ⊥) → nameOk n ≡ true
 unfolding inodeOf
 standing-ok N [] g n h = absurd (h refl)
 standing-ok N (p ∷ ps) g n h =
-    by-bool (isNamed n p) (λ t. let e = same-true (p .0) n t in rw (← e) (g .0 .fine)) (λ t. standing-ok N ps (g .1) n (λ z. h (rw (inodeOf, t) z)))
+    by-bool (isNamed n p) (λ t. let e = same-true (p .0) n t in rw (← e) (g .0 .fine))
+    (λ t. standing-ok N ps (g .1) n (λ z. h (rw (inodeOf, t) z)))
 
 -- the names of a directory whose log is accepted
 module _ (u : Mem) (P N d : ℕ) (dir : isDirectory u d ≡ true) (ok : logOk u P N d ≡ true) where
@@ -92,14 +87,9 @@ module _ (u : Mem) (P N d : ℕ) (dir : isDirectory u d ≡ true) (ok : logOk u 
       let h = rw dir at ok in
       good-fold u N (entryWords (pages u P N d) (tailSlots u d)) [] (search ands) tt
 
-  pub names-in : NamesIn N (namesOf u P N d)
+  pub names-distinct : DistinctNames (namesOf u P N d)
   unfolding namesOf
-  names-in =
-      record {
-        distinct = distinct-fold (entries u P N d) [] tt;
-        first = λ k c. good-inode N (namesOf u P N d) k names-good c .0;
-        below = λ k c. good-inode N (namesOf u P N d) k names-good c .1;
-      }
+  names-distinct = distinct-fold (entries u P N d) [] tt
 
 -- Entries that are appended.
 
@@ -169,4 +159,5 @@ clean-names N ns g d = clean-from N ns [] g d
 pub clean-names-ok : (N : ℕ) (ns : Names) → GoodNames N ns → all (nameEntryOk N) (map decode (cleanNames ns)) ≡ true
 unfolding all cleanNames
 clean-names-ok N [] g = refl
-clean-names-ok N (p ∷ ps) g = rw (add-entry-ok (p .0) (g .0 .fine) (g .0 .bytes) N (p .1) (g .0 .first) (g .0 .below)) (clean-names-ok N ps (g .1))
+clean-names-ok N (p ∷ ps) g =
+    rw (add-entry-ok (p .0) (g .0 .fine) (g .0 .bytes) N (p .1) (g .0 .first) (g .0 .below)) (clean-names-ok N ps (g .1))

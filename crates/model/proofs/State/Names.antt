@@ -1,11 +1,11 @@
--- Lists of names: what stands in a list, and in one with a name put in or taken out; where names are distinct, how long it is and how often it leads
--- to an inode. By induction on the list.
+-- Lists of names: what stands in a list, and in one with a name put in or taken out; where names are distinct, how long it is and how often
+-- it leads to an inode. By induction on the list.
 use Rattle.model.proofs.Prelude.{_≡_, refl, sym, _∙_, ℕ, _+_, _≤_, Bool, true, false, cond, List, [], _∷_, _++_, map-append, arith, length, take, length-append, eqb}
 use Rattle.model.specs.Lists.{bit, filter, foldl, count}
 use Rattle.model.specs.Entry.{Entry, writeEntry, sizeEntry, addEntry, removeEntry, noEntry}
 use Rattle.model.specs.State.{Names, isNamed, without, withName, nameStep, inodeOf, inodes}
 use Rattle.model.proofs.Tests.{by-bool, no, cond-neither, bit-same, bit-other}
-use Rattle.model.proofs.Lists.{same-true, same-ne, same-sym, count-append, count-one}
+use Rattle.model.proofs.Lists.{same-true, same-refl, same-ne, same-sym, count-append, count-one}
 
 -- whether a name stands in a list
 unfoldable pub standsIn : List ℕ → Names → Bool
@@ -53,7 +53,8 @@ gone-without n (p ∷ ps) =
     by-bool (isNamed n p) (λ t. rw (without-same n p ps t) (gone-without n ps))
     (λ t. rw (without-other n p ps t, standsIn, t) (gone-without n ps))
 
-absent-snoc : (n a : List ℕ) (i : ℕ) (ns : Names) → standsIn n ns ≡ false → isNamed n (a, i) ≡ false → standsIn n (ns ++ (a, i) ∷ []) ≡ false
+absent-snoc : (n a : List ℕ) (i : ℕ) (ns : Names) → standsIn n ns ≡ false → isNamed n (a, i) ≡ false
+    → standsIn n (ns ++ (a, i) ∷ []) ≡ false
 unfolding standsIn
 absent-snoc n a i [] e d = rw d
 absent-snoc n a i (p ∷ ps) e d = let c = not-in n p ps e in rw (standsIn, c .0) (absent-snoc n a i ps (c .1) d)
@@ -125,6 +126,15 @@ pub inodeOf-with : (ns : Names) (a : List ℕ) (i : ℕ) (b : List ℕ) → (a �
 unfolding withName
 inodeOf-with ns a i b d = inodeOf-snoc (without a ns) a i b d ∙ inodeOf-without ns a b d
 
+inodeOf-end : (ns : Names) (n : List ℕ) (i : ℕ) → standsIn n ns ≡ false → inodeOf (ns ++ (n, i) ∷ []) n ≡ i
+unfolding inodeOf
+inodeOf-end [] n i e = rw (same-refl n)
+inodeOf-end (p ∷ ps) n i e = let c = not-in n p ps e in rw (inodeOf, c .0) (inodeOf-end ps n i (c .1))
+
+pub inodeOf-put : (ns : Names) (n : List ℕ) (i : ℕ) → inodeOf (withName n i ns) n ≡ i
+unfolding withName
+inodeOf-put ns n i = inodeOf-end (without n ns) n i (gone-without n ns)
+
 -- Lengths.
 
 pub length-without : (n : List ℕ) (ns : Names) → DistinctNames ns → length (without n ns) + bit (standsIn n ns) ≡ length ns
@@ -157,6 +167,7 @@ count-less j n (p ∷ ps) =
     let r = count-less j n ps in
     by-bool (isNamed n p) (λ t. rw (without-same n p ps t) (omega arith)) (λ t. rw (without-other n p ps t) (omega arith))
 
-pub count-with : (j : ℕ) (n : List ℕ) (i : ℕ) (ns : Names) → count j (inodes (withName n i ns)) ≡ count j (inodes (without n ns)) + bit (eqb j i)
+pub count-with : (j : ℕ) (n : List ℕ) (i : ℕ) (ns : Names)
+    → count j (inodes (withName n i ns)) ≡ count j (inodes (without n ns)) + bit (eqb j i)
 unfolding withName
 count-with j n i ns = simp (map-append, count-append, count-one)

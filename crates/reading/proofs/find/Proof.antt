@@ -1,7 +1,5 @@
--- The gate's answers are the first three checks, and the places that it left are those of the names that stand.
-use Rattle.model.proofs.Prelude.{needs}
-use Rattle.gate.proofs.Gates.{gate-filled}
-use Rattle.reading.proofs.Answers.{find-refused, find-bad, find-absent, find-there}
+-- The gate refuses as the model does; behind it the checks decide.
+use Rattle.reading.proofs.Folders.{gate-good, gate-lists, find-gate, find-behind}
 use Rattle.reading.proofs.find.Statement.{statement}
 use Rattle.reading.proofs.find.Tie as tie
 
@@ -9,11 +7,8 @@ pub find-spec : {M : Type 1} → statement M
 find-spec =
     tie.close
     (tie.spec
-    (λ c κs. search needs)
-    (λ c. search needs)
-    (λ c. search (find-refused, needs))
-    (λ c κs. search needs)
-    (λ c. search (find-bad, needs))
-    (λ c κs. search (gate-filled, needs))
-    (λ c. search (find-absent, needs))
-    (λ c. search (find-there, needs)))
+    (λ c κs. search)
+    (λ c. search)
+    (λ c. search find-gate)
+    (λ c κs. search (gate-good, gate-lists))
+    (λ c. search find-behind))

@@ -1,7 +1,7 @@
--- Each answer is one law of proofs/Stating.antt.
+-- The gate's answer, or that of the file behind it.
 use Rattle.model.proofs.Prelude.{needs}
-use Rattle.gate.proofs.Gates.{gate-word-1, gate-ready, gate-readable}
-use Rattle.state.proofs.Stating.{state-refused, state-absent, file-below, file-above, good-log, state-there}
+use Rattle.gate.proofs.Gates.{gate-good}
+use Rattle.state.proofs.Stating.{state-refused, state-is}
 use Rattle.state.proofs.file.Statement.{statement}
 use Rattle.state.proofs.file.Tie as tie
 
@@ -12,8 +12,5 @@ file-spec =
     (λ c κs. search needs)
     (λ c. search needs)
     (λ c. search (state-refused, needs))
-    (λ c κs. search (gate-word-1, needs))
-    (λ c κs. search (gate-readable, needs))
-    (λ c. search (state-absent, needs))
-    (λ c κs. (search (gate-ready, needs), search (file-above, needs), search (file-below, needs), search needs, search (good-log, needs)))
-    (λ c. search (state-there, needs)))
+    (λ c κs. (search gate-good, search))
+    (λ c. search (state-is, needs)))

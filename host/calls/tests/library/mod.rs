@@ -13,6 +13,7 @@ pub const COMPILED: Library = Library {
     size: calls::size,
     read: calls::read,
     kth_name: calls::kth_name,
+    total: calls::total,
     free_count: calls::free_count,
     gaps: calls::gaps,
 };

@@ -5,15 +5,16 @@ use crate::compare::{Compared, Counts, CHANGES, NOTHING};
 use reference::layout::{set_word, word};
 use reference::{judge, land, Call, FileMap};
 use samples::{
-    any_call, clean, create, entry_add, entry_remove, entry_size, entry_write, formatted, link,
-    long_directory, map_of, numbered, put_log, random_cut, rename, sample, set_size, text, unlink,
-    write, Random,
+    any_call, clean, create, create_folder, entry_add, entry_remove, entry_size, entry_write,
+    formatted, link, long_directory, map_of, numbered, put_log, random_cut, rename, sample,
+    set_size, text, unlink, write, Random,
 };
 
 /// A call of each kind that is done on [`sample`].
-fn done_on_sample() -> [Call; 7] {
+fn done_on_sample() -> [Call; 8] {
     [
         create(b"C3"),
+        create_folder(0, b"C3"),
         link(b"A1", b"C3"),
         unlink(b"A1"),
         rename(b"A1", b"B2"),
@@ -48,14 +49,15 @@ pub fn random_calls(random: &mut Random, volume: Vec<u8>, length: u64, counts: &
     drawn_calls(random, volume, length, any_call, counts);
 }
 
-/// So many calls from an accepted volume on, drawn with its inode count and map; some of them cut.
+/// So many calls from an accepted volume on, drawn with its inode count and map; some of them cut. Answers the volume
+/// that they leave.
 pub fn drawn_calls(
     random: &mut Random,
     mut volume: Vec<u8>,
     length: u64,
     draw: fn(&mut Random, u64, &FileMap) -> Call,
     counts: &mut Counts,
-) {
+) -> Vec<u8> {
     let inodes = word(&volume, 1);
     for _ in 0..length {
         let open = judge(&volume).is_ok_and(|judged| judged.journal.is_open());
@@ -70,6 +72,7 @@ pub fn drawn_calls(
             land(&mut volume, &list);
         }
     }
+    volume
 }
 
 #[test]
@@ -82,15 +85,22 @@ fn histories_of_small_volumes() {
         history(seed, pages, inodes, 150, &mut counts);
     }
     counts.reached(&CHANGES, &[0], 300);
-    counts.reached(&CHANGES[..7], &[4], 10);
-    counts.reached(&["create", "link", "unlink", "rename"], &[5, 12], 20);
+    counts.reached(&CHANGES[..8], &[4], 10);
+    counts.reached(&CHANGES[..5], &[5, 12], 20);
     counts.reached(&["write", "set_size", "clean"], &[6, 12], 20);
     counts.reached(&["link", "unlink", "rename"], &[6], 100);
-    counts.reached(&["create", "link"], &[7], 100);
+    counts.reached(&["create", "create_folder", "link"], &[7], 100);
+    counts.reached(&CHANGES[..7], &[16], 20);
+    counts.reached(&["unlink"], &[17], 100);
+    counts.reached(&["rename"], &[18], 100);
     counts.reached(&["write"], &[8], 100);
     counts.reached(&["write", "set_size"], &[9], 100);
-    counts.reached(&["create", "link", "write", "set_size"], &[15], 10);
-    counts.reached(&["create"], &[10], 100);
+    counts.reached(
+        &["create", "create_folder", "link", "write", "set_size"],
+        &[15],
+        10,
+    );
+    counts.reached(&["create", "create_folder"], &[10], 100);
     let idle = ["rename", "write", "set_size", "clean", "recover"];
     counts.reached(&idle, &[NOTHING], 20);
 }
@@ -187,6 +197,7 @@ fn full_directories() {
         for _ in 0..3 {
             let mut compared = Compared::new(&volume, 0, &mut counts);
             compared.change(&create(b"new"), 4_096);
+            compared.change(&create_folder(0, b"new"), 4_096);
             compared.change(&link(&numbered(0), b"new"), 4_096);
             compared.change(&unlink(&numbered(0)), 4_096);
             compared.change(&rename(&numbered(0), b"new"), 4_096);
@@ -197,7 +208,7 @@ fn full_directories() {
         }
     }
     counts.reached(&["link"], &[0, 3, 11], 3);
-    counts.reached(&["create"], &[0, 3, 10], 3);
+    counts.reached(&["create", "create_folder"], &[0, 3, 10], 3);
     counts.reached(&["clean"], &[0, 3], 3);
 }
 
@@ -212,10 +223,11 @@ fn create_as_the_225th_name() {
     }
     let mut compared = Compared::new(&volume, 0, &mut counts);
     compared.change(&clean(0), 4_096);
+    compared.change(&create_folder(0, b"x"), 4_096);
     compared.change(&link(&numbered(5), b"x"), 4_096);
     compared.change(&rename(&numbered(5), b"x"), 4_096);
     counts.reached(&["create"], &[0], 224);
-    counts.reached(&["create", "link"], &[11], 1);
+    counts.reached(&["create", "create_folder", "link"], &[11], 1);
 }
 
 /// Lets file 2 of [`sample`] have these pages: one in eight for its log, which is full, the others for data.
@@ -263,7 +275,7 @@ fn free_pages_run_out() {
             }
         }
     }
-    counts.reached(&CHANGES[..7], &[0, 12], 2);
+    counts.reached(&CHANGES[..8], &[0, 12], 2);
     counts.reached(&["write", "set_size", "clean"], &[0, 12], 20);
     counts.reached(&["create", "link", "write", "set_size"], &[15], 2);
 }

@@ -2,8 +2,12 @@
 
 use crate::compiled::fill;
 use crate::lent::Lent;
-use reference::{judge, map, Answer, Call, FENCE};
-use samples::{any_call, any_calls, any_name, any_number, marked_list, name_of, Random};
+use reference::layout::ROOT;
+use reference::{judge, map, Answer, Call, Refusal, FENCE};
+use samples::{
+    any_call, any_calls, any_name, any_number, clean, create_folder, create_in, link_in,
+    marked_list, name_of, rename_in, set_size, unlink_in, write, Random, NOWHERE,
+};
 use std::collections::BTreeMap;
 use std::fmt::Arguments;
 
@@ -37,11 +41,27 @@ impl Counts {
 }
 
 /// The calls that read a volume.
-pub const READINGS: [&str; 6] = ["find", "size", "read", "kth_name", "free_count", "gaps"];
+pub const READINGS: [&str; 7] = [
+    "find",
+    "size",
+    "read",
+    "kth_name",
+    "total",
+    "free_count",
+    "gaps",
+];
 
 /// The calls that fill a store list.
-pub const CHANGES: [&str; 8] = [
-    "create", "link", "unlink", "rename", "write", "set_size", "clean", "recover",
+pub const CHANGES: [&str; 9] = [
+    "create",
+    "create_folder",
+    "link",
+    "unlink",
+    "rename",
+    "write",
+    "set_size",
+    "clean",
+    "recover",
 ];
 
 /// The longest volume, in bytes, and the most stretches for which gaps is compared with lists of every length.
@@ -55,6 +75,7 @@ pub struct Compared<'a> {
     counts: &'a mut Counts,
     last: Option<Answer>,
     title: String,
+    refused: Option<Refusal>,
 }
 
 impl<'a> Compared<'a> {
@@ -67,7 +88,14 @@ impl<'a> Compared<'a> {
             counts,
             last: None,
             title: String::new(),
+            refused: None,
         }
+    }
+
+    /// The same volume, on which every call must be refused so.
+    pub fn refused(self, refusal: Refusal) -> Compared<'a> {
+        let refused = Some(refusal);
+        Compared { refused, ..self }
     }
 
     /// The same volume with a title, which begins the message where a call is wrong.
@@ -96,18 +124,22 @@ impl<'a> Compared<'a> {
     ) {
         let title = &self.title;
         assert_eq!(compiled, expected, "{title}{call}({arguments})");
+        if let Some(refusal) = self.refused {
+            assert_eq!(compiled, Err(refusal), "{title}{call}({arguments})");
+        }
         let unchanged = self.volume.holds(self.bytes);
         assert!(unchanged, "{title}{call} changed the volume");
         self.counts.count(call, expected);
         self.last = Some(expected);
     }
 
-    /// Find.
-    pub fn find(&mut self, name: &[u8]) {
+    /// Find, in a folder.
+    pub fn find(&mut self, folder: u64, name: &[u8]) {
         let lent = Lent::new(name, name.len() % 8);
-        let compiled = calls::find(self.volume.slice(), lent.slice());
-        let expected = reference::find(self.bytes, name);
-        self.same("find", format_args!("{name:?}"), compiled, expected);
+        let compiled = calls::find(self.volume.slice(), folder, lent.slice());
+        let expected = reference::find(self.bytes, folder, name);
+        let arguments = format_args!("{folder}, {name:?}");
+        self.same("find", arguments, compiled, expected);
         assert!(lent.holds(name), "find changed the name");
     }
 
@@ -116,6 +148,13 @@ impl<'a> Compared<'a> {
         let compiled = calls::size(self.volume.slice(), inode);
         let expected = reference::size(self.bytes, inode);
         self.same("size", format_args!("{inode}"), compiled, expected);
+    }
+
+    /// Total of a folder.
+    pub fn total(&mut self, folder: u64) {
+        let compiled = calls::total(self.volume.slice(), folder);
+        let expected = reference::total(self.bytes, folder);
+        self.same("total", format_args!("{folder}"), compiled, expected);
     }
 
     /// Count of free pages.
@@ -165,13 +204,13 @@ impl<'a> Compared<'a> {
         assert!(lent.holds(&copy), "read({arguments}) left other bytes");
     }
 
-    /// K-th name, into a buffer that holds these bytes.
-    pub fn kth_name(&mut self, k: u64, buffer: &[u8]) {
+    /// K-th name of a folder, into a buffer that holds these bytes.
+    pub fn kth_name(&mut self, folder: u64, k: u64, buffer: &[u8]) {
         let mut lent = Lent::new(buffer, buffer.len() % 8);
         let mut copy = buffer.to_vec();
-        let compiled = calls::kth_name(self.volume.slice(), k, lent.slice_mut());
-        let expected = reference::kth_name(self.bytes, k, &mut copy);
-        let arguments = format!("{k}, {} bytes", buffer.len());
+        let compiled = calls::kth_name(self.volume.slice(), folder, k, lent.slice_mut());
+        let expected = reference::kth_name(self.bytes, folder, k, &mut copy);
+        let arguments = format!("{folder}, {k}, {} bytes", buffer.len());
         self.same("kth_name", format_args!("{arguments}"), compiled, expected);
         assert!(lent.holds(&copy), "kth_name({arguments}) left other bytes");
     }
@@ -246,6 +285,35 @@ pub fn compare_all(random: &mut Random, bytes: &[u8], counts: &mut Counts) {
     compared.carry_out(&list, count);
 }
 
+/// Makes every kind of call on a volume, about these names in these folders.
+pub fn every_kind(compared: &mut Compared<'_>, folders: &[u64], names: &[&[u8]]) {
+    compared.free_count();
+    compared.gaps_into(0);
+    for number in [0, 1, 224] {
+        compared.kth_name(0, number, &[0x55; 33]);
+        compared.size(number);
+    }
+    compared.read(1, 0, &[0x55; 9]);
+    let mut calls = vec![set_size(1, 3), write(1, 0, b"x"), Call::Recover];
+    for &folder in folders {
+        compared.kth_name(folder, 0, &[0x55; 33]);
+        compared.total(folder);
+        calls.push(clean(folder));
+        for name in names {
+            compared.find(folder, name);
+            calls.extend([create_in(folder, name), create_folder(folder, name)]);
+            calls.extend([unlink_in(folder, name), link_in(folder, name, 0, NOWHERE)]);
+            calls.extend([
+                rename_in(folder, name, 0, NOWHERE),
+                rename_in(0, name, folder, NOWHERE),
+            ]);
+        }
+    }
+    for call in &calls {
+        compared.change(call, 4_096);
+    }
+}
+
 /// Makes every changing call on a volume: some with any arguments, and of an accepted one some about what
 /// stands there.
 pub fn compare_changes(random: &mut Random, bytes: &[u8], counts: &mut Counts) {
@@ -277,22 +345,28 @@ pub fn compare_readings(random: &mut Random, bytes: &[u8], counts: &mut Counts) 
     let mut compared = Compared::new(bytes, random.below(8) as usize, counts);
     compared.free_count();
     compared.gaps();
-    compared.find(&any_name(random));
+    compared.find(any_folder(random), &any_name(random));
     compared.size(any_number(random));
     compared.size(random.below(10));
+    compared.total(any_folder(random));
     let buffer = any_buffer(random);
     compared.read(any_number(random), any_number(random), &buffer);
     compared.read(random.below(10), random.below(2_000), &buffer);
-    compared.kth_name(any_number(random), &buffer);
+    compared.kth_name(any_folder(random), any_number(random), &buffer);
     let shorter = random.bytes(40);
-    compared.kth_name(random.below(3), &shorter[..random.between(28, 40) as usize]);
+    let shorter = &shorter[..random.between(28, 40) as usize];
+    compared.kth_name(any_folder(random), random.below(3), shorter);
     if let Ok(judged) = judge(bytes) {
-        if let Some((name, inode)) = random.choose(&judged.names) {
-            compared.find(name);
-            compared.find(&altered(random, name));
+        let folders: Vec<_> = judged.folders.iter().collect();
+        let (&folder, names) = random.choose(&folders).expect("inode 0 is a folder");
+        compared.total(folder);
+        if let Some((name, inode)) = random.choose(names) {
+            compared.find(folder, name);
+            compared.find(folder, &altered(random, name));
             compared.size(*inode);
+            compared.total(*inode);
         }
-        compared.kth_name(random.below(judged.names.len() as u64 + 1), &buffer);
+        compared.kth_name(folder, random.below(names.len() as u64 + 1), &buffer);
         let files: Vec<(&u64, u64)> = judged
             .files
             .iter()
@@ -302,6 +376,15 @@ pub fn compare_readings(random: &mut Random, bytes: &[u8], counts: &mut Counts) 
             compared.read(**inode, any_offset(random, *size), &buffer);
             compared.read(**inode, any_offset(random, *size), &buffer);
         }
+    }
+}
+
+/// An inode given as folder: every second time inode 0.
+fn any_folder(random: &mut Random) -> u64 {
+    match random.below(8) {
+        0 => any_number(random),
+        1..=3 => random.below(10),
+        _ => ROOT,
     }
 }
 

@@ -6,12 +6,12 @@ use crate::compare::{
 use reference::layout::set_word;
 use reference::{cut, Refusal};
 use samples::{
-    change_live_word, clean, create, filled, flip_live_bit, link, live_words, run, sample,
-    set_size, used_volume, write, Random, NUMBERS,
+    change_live_word, clean, create, create_folder, create_in, filled, flip_live_bit, link,
+    live_words, run, sample, set_size, used_volume, write, Random, NUMBERS,
 };
 
 /// The sample after some calls: more names than files, logs that go on, a file with an end in a mapped
-/// page. With `open`, a create is cut while the journal is open.
+/// page, a folder with a name. With `open`, a create is cut while the journal is open.
 fn grown_sample(open: bool) -> Vec<u8> {
     let mut volume = sample();
     let mut calls = vec![
@@ -23,6 +23,8 @@ fn grown_sample(open: bool) -> Vec<u8> {
         set_size(1, 3_000),
         write(3, 511, b"ab"),
         set_size(2, 65_536),
+        create_folder(0, b"east"),
+        create_in(4, b"C3"),
     ]);
     for call in &calls {
         run(&mut volume, call).expect("the call is done");
@@ -40,11 +42,13 @@ fn compare_a_few(bytes: &[u8], counts: &mut Counts) {
     let mut compared = Compared::new(bytes, 3, counts);
     compared.free_count();
     compared.gaps();
-    compared.find(b"A1");
-    compared.find(b"C3");
+    compared.find(0, b"A1");
+    compared.find(0, b"C3");
+    compared.find(4, b"C3");
     compared.size(2);
     compared.read(1, 0, &[0x55; 3_100]);
-    compared.kth_name(1, &[0x55; 33]);
+    compared.kth_name(0, 1, &[0x55; 33]);
+    compared.total(0);
     compared.change(&write(1, 690, &[8; 40]), 4_096);
     compared.change(&clean(0), 4_096);
 }

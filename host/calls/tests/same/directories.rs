@@ -2,13 +2,13 @@
 //!
 //! Each log says which names it leaves, so that what is compared is also what document 01 says.
 
-use crate::compare::{Compared, Counts};
+use crate::compare::{every_kind, Compared, Counts};
 use reference::layout::{set_word, valid_word};
-use reference::{judge, land, Answer, Call, Refusal};
+use reference::{judge, land, Call, Refusal};
 use samples::{
     added_again, added_and_removed, clean, create, home, largest_log, link, names_one_byte_apart,
-    names_with_homes, nearly_same_names, rename, set_size, size_of, unlink, varied_name,
-    varied_names, write, DirectoryLog, MOST_DIFFERENT, MOST_ENTRIES, NOWHERE,
+    names_with_homes, nearly_same_names, rename, size_of, unlink, varied_name, varied_names,
+    DirectoryLog, MOST_DIFFERENT, MOST_ENTRIES, NOWHERE,
 };
 use std::collections::HashSet;
 use std::fmt::Display;
@@ -16,10 +16,10 @@ use std::fmt::Display;
 /// Names in list order, each with its inode.
 type Names = Vec<(Vec<u8>, u64)>;
 
-/// The names of a volume by the model.
+/// The names in inode 0 of a volume by the model.
 fn names_in(volume: &[u8]) -> Result<Names, Refusal> {
     let named = |&(name, inode): &(&[u8], u64)| (name.to_vec(), inode);
-    judge(volume).map(|judged| judged.names.iter().map(named).collect())
+    judge(volume).map(|judged| judged.folders[&0].iter().map(named).collect())
 }
 
 /// All of these, unless they are many or the log is long, so that each call takes milliseconds: then the first two, the
@@ -84,22 +84,22 @@ impl Logs {
     fn compare_names(&mut self, log: &DirectoryLog, volume: &[u8], names: &Names) {
         let mut compared = Compared::new(volume, log.length() % 8, &mut self.counts);
         for (name, inode) in some_of(log, names) {
-            compared.find(&name);
+            compared.find(0, &name);
             assert_eq!(compared.answer(), Ok(inode), "{name:?}");
         }
         for name in some_of(log, &log.gone()).iter().chain(&self.never) {
-            compared.find(name);
+            compared.find(0, name);
             assert_eq!(compared.answer(), Err(Refusal::NotThere), "{name:?}");
         }
         let lengths = names.iter().map(|name| name.0.len() as u64);
         let lengths: Vec<(u64, u64)> = (0..).zip(lengths).collect();
         for (k, length) in some_of(log, &lengths) {
-            compared.kth_name(k, &[0x55; 33]);
+            compared.kth_name(0, k, &[0x55; 33]);
             assert_eq!(compared.answer(), Ok(length), "name {k}");
         }
         let count = names.len() as u64;
         for k in [count, count + 1, u64::MAX] {
-            compared.kth_name(k, &[0x55; 33]);
+            compared.kth_name(0, k, &[0x55; 33]);
             assert_eq!(compared.answer(), Err(Refusal::NotThere), "name {k}");
         }
     }
@@ -138,44 +138,23 @@ impl Logs {
         land(&mut landed, &list);
         assert_eq!(names_in(&landed).as_ref(), Ok(names), "{call:?}");
         let mut compared = Compared::new(&landed, 0, &mut self.counts);
-        compared.kth_name(names.len() as u64, &[0x55; 33]);
+        compared.kth_name(0, names.len() as u64, &[0x55; 33]);
         assert_eq!(compared.answer(), Err(Refusal::NotThere), "{call:?}");
         if let Some((name, inode)) = names.last() {
-            compared.find(name);
+            compared.find(0, name);
             assert_eq!(compared.answer(), Ok(*inode), "{call:?}");
-            compared.kth_name(names.len() as u64 - 1, &[0x55; 33]);
+            compared.kth_name(0, names.len() as u64 - 1, &[0x55; 33]);
             assert_eq!(compared.answer(), Ok(name.len() as u64), "{call:?}");
         }
     }
 
     /// Makes every kind of call on a volume that must be damaged, about these names.
     fn damaged(&mut self, title: impl Display, volume: &[u8], names: &[&[u8]]) {
-        println!("{title}"); // shown where the test fails
-        let mut compared = Compared::new(volume, 0, &mut self.counts);
-        let damaged = |answer: Answer| assert_eq!(answer, Err(Refusal::Damaged));
-        compared.free_count();
-        damaged(compared.answer());
-        compared.gaps_into(0);
-        damaged(compared.answer());
-        for number in [0, 1, 224] {
-            compared.kth_name(number, &[0x55; 33]);
-            damaged(compared.answer());
-            compared.size(number);
-            damaged(compared.answer());
-        }
-        compared.read(1, 0, &[0x55; 9]);
-        damaged(compared.answer());
-        let mut calls = vec![clean(0), set_size(1, 3), write(1, 0, b"x"), Call::Recover];
-        for name in names {
-            compared.find(name);
-            damaged(compared.answer());
-            calls.extend([create(name), unlink(name)]);
-            calls.extend([link(name, NOWHERE), rename(name, NOWHERE)]);
-        }
-        for call in &calls {
-            compared.change(call, 4_096);
-            damaged(compared.answer());
-        }
+        let compared = Compared::new(volume, 0, &mut self.counts);
+        let mut compared = compared
+            .titled(format!("{title}: "))
+            .refused(Refusal::Damaged);
+        every_kind(&mut compared, &[0], names);
     }
 }
 

@@ -8,17 +8,18 @@ use samples::{
 };
 
 /// The calls by name that fill a store list.
-const BY_NAME: [&str; 4] = ["create", "link", "unlink", "rename"];
+const BY_NAME: [&str; 5] = ["create", "create_folder", "link", "unlink", "rename"];
 
 /// The reading calls, about each tried name and each that stands.
 fn readings(compared: &mut Compared, volume: &[u8]) {
     for name in tried_names() {
-        compared.find(name);
+        compared.find(0, name);
     }
     let map = map_of(volume);
-    for k in 0..=map.names.len() as u64 {
-        compared.kth_name(k, &[0xA7; 40]);
+    for k in 0..=map.names(0).len() as u64 {
+        compared.kth_name(0, k, &[0xA7; 40]);
     }
+    compared.total(0);
     for &inode in map.files.keys() {
         compared.size(inode);
         compared.read(inode, 0, &[0xA7; 100]);
@@ -47,8 +48,8 @@ fn every_call() {
     counts.reached(&BY_NAME, &[0, 4, 5], 80);
     counts.reached(&BY_NAME, &[12], 3);
     counts.reached(&["link", "unlink", "rename", "find"], &[6], 200);
-    counts.reached(&["create", "link"], &[7, 11, 15], 7);
-    counts.reached(&["create"], &[10], 7);
+    counts.reached(&["create", "create_folder", "link"], &[7, 11, 15], 7);
+    counts.reached(&["create", "create_folder"], &[10], 7);
     counts.reached(&["rename"], &[NOTHING], 20);
     counts.reached(&READINGS, &[0, 4], 6);
 }
@@ -83,7 +84,7 @@ fn calls_that_go_on() {
         let volume = sample.volume;
         drawn_calls(&mut random, volume, 60, any_call_with_dots, &mut counts);
     }
-    counts.reached(&["create", "link", "rename"], &[5], 100);
+    counts.reached(&["create", "create_folder", "link", "rename"], &[5], 100);
     counts.reached(&CHANGES, &[0], 100);
 }
 
@@ -98,7 +99,7 @@ fn made_up_volumes() {
         compare_readings(&mut random, &volume, &mut counts);
         let mut compared = Compared::new(&volume, number % 8, &mut counts);
         for name in tried_names() {
-            compared.find(name);
+            compared.find(0, name);
         }
         for call in calls.iter().skip(number % 29).step_by(29) {
             compared.change(call, 4_096);

@@ -59,10 +59,10 @@ fn a_directory_in_every_page() {
     let mut compared = Compared::new(&volume, 0, &mut counts);
     compared.free_count();
     compared.gaps();
-    compared.find(&name(adds - 1));
-    compared.find(&name(0));
-    compared.kth_name(0, &[0x55; 33]);
-    compared.kth_name(224, &[0x55; 33]);
+    compared.find(0, &name(adds - 1));
+    compared.find(0, &name(0));
+    compared.kth_name(0, 0, &[0x55; 33]);
+    compared.kth_name(0, 224, &[0x55; 33]);
     counts.reached(&["find", "kth_name"], &[0, 6], 1);
     counts.reached(&["free_count", "gaps"], &[0], 1);
 }

@@ -77,7 +77,7 @@ fn numbers_of_the_layout() {
     assert_eq!(ours::LIST_WORDS, model::LIST_WORDS);
     assert_eq!(ours::PAGE_BYTES, model::PAGE_BYTES);
     assert_eq!(ours::WORD_BYTES * model::PAGE_WORDS, model::PAGE_BYTES);
-    assert_eq!(ours::DIRECTORY, model::DIRECTORY);
+    assert_eq!(ours::ROOT, model::ROOT);
     assert_eq!(ours::SIZE_LIMIT, model::SIZE_LIMIT);
     assert_eq!(ours::WRITE_LIMIT, model::WRITE_LIMIT);
     assert_eq!(ours::NAME_BYTES, model::NAME_BYTES);

@@ -10,6 +10,7 @@ mod compiled;
 mod damaged;
 mod directories;
 mod dot_names;
+mod folders;
 mod gaps;
 mod histories;
 mod large;

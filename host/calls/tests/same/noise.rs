@@ -91,7 +91,7 @@ fn format_of_every_size() {
         let mut compared = Compared::new(&formatted, 0, &mut counts);
         compared.free_count();
         compared.gaps();
-        compared.kth_name(0, &[7; 32]);
+        compared.kth_name(0, 0, &[7; 32]);
     }
     counts.reached(&["format"], &[0, 2], 5);
     counts.reached(&["free_count", "gaps"], &[0], 5);

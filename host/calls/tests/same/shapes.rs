@@ -18,8 +18,8 @@ fn three_hundred_names() {
         compared.free_count();
         compared.gaps();
         for number in (0..300).step_by(7).chain([222, 223, 224, 225, 299]) {
-            compared.find(&numbered(number));
-            compared.kth_name(number, &[0x55; 40]);
+            compared.find(0, &numbered(number));
+            compared.kth_name(0, number, &[0x55; 40]);
         }
     }
     counts.reached(&["find"], &[0, 3, 6], 20);
@@ -47,8 +47,8 @@ fn names_that_are_nearly_the_same() {
     put_log(&mut volume, 2, &[], &[]);
     let mut compared = Compared::new(&volume, 0, &mut counts);
     for (name, k) in names.iter().zip(0..) {
-        compared.find(name);
-        compared.kth_name(k, &[0x55; 40]);
+        compared.find(0, name);
+        compared.kth_name(0, k, &[0x55; 40]);
     }
     counts.reached(&["find", "kth_name"], &[0, 6], 10);
 }

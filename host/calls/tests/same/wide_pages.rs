@@ -9,16 +9,17 @@ use samples::{calls_on_wide_pages, wide_pages};
 type Reading = fn(&mut Compared<'_>);
 
 /// The reading calls, each with its name in a message.
-const READ: [(&str, Reading); 9] = [
+const READ: [(&str, Reading); 10] = [
     ("free_count", |compared| compared.free_count()),
     ("gaps", |compared| compared.gaps_into(64)),
-    ("find a", |compared| compared.find(b"a")),
-    ("find c", |compared| compared.find(b"c")),
+    ("find a", |compared| compared.find(0, b"a")),
+    ("find c", |compared| compared.find(0, b"c")),
     ("size 1", |compared| compared.size(1)),
     ("size 2", |compared| compared.size(2)),
     ("size 3", |compared| compared.size(3)),
     ("read", |compared| compared.read(1, 3, &[0x55; 1_100])),
-    ("kth_name", |compared| compared.kth_name(2, &[0x55; 33])),
+    ("kth_name", |compared| compared.kth_name(0, 2, &[0x55; 33])),
+    ("total", |compared| compared.total(0)),
 ];
 
 /// Makes every call that judges a volume, with lists that are long enough. Where the volume is `damaged` each must be refused with 3;
@@ -59,5 +60,5 @@ fn three_where_read_and_done_where_not() {
     counts.reached(&READINGS, &[0, 3], 5_900);
     counts.reached(&READINGS, &[4], 3_900);
     counts.reached(&CHANGES, &[0, 3], 5_900);
-    counts.reached(&CHANGES[..7], &[4], 3_900);
+    counts.reached(&CHANGES[..8], &[4], 3_900);
 }

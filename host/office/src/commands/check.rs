@@ -1,12 +1,12 @@
 //! `check`: whether the volume is accepted, and if not, why.
 
-use super::{names, open, PART};
+use super::{is_part, names, open};
 use crate::arguments::Arguments;
 use crate::failure::{refused, Failure, Outcome};
 use crate::room::{is_stuck, way_out};
 use crate::show;
 use crate::store::Store;
-use crate::text::{counted, say, shown_name};
+use crate::text::{counted, say};
 use calls::layout::VOLUME_LIMIT;
 use refusal::Refusal;
 
@@ -24,18 +24,22 @@ pub fn run(arguments: &Arguments) -> Outcome {
 
 fn accepted(store: &Store, free: u64) -> Outcome {
     let names = names(store)?;
-    let (count, free) = (
-        counted(names.len() as u64, "name"),
-        counted(free, "free page"),
-    );
-    say(&format!("accepted: {count}, {free}, journal closed"))?;
+    let count = counted(names.len() as u64, "name");
+    let folders = match names.iter().filter(|name| name.is_folder).count() {
+        0 => String::new(),
+        count => format!(", {}", counted(count as u64, "folder")),
+    };
+    let free = counted(free, "free page");
+    say(&format!(
+        "accepted: {count}{folders}, {free}, journal closed"
+    ))?;
     if is_stuck(store.volume()) {
         say(&way_out(store.volume(), &store.typed()))?;
     }
-    if names.iter().any(|name| name == PART) {
-        let (name, volume) = (shown_name(PART), store.typed());
+    for part in names.iter().filter(|name| is_part(name)) {
+        let (path, volume) = (part.path.shown(), store.typed());
         say(&format!(
-            "{name}: left by a killed put; the next put or 'office recover {volume}' removes it"
+            "{path}: left by a killed put; the next put or 'office recover {volume}' removes it"
         ))?;
     }
     Ok(())

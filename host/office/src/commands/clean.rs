@@ -1,15 +1,15 @@
 //! `clean`: logs written anew, with only the entries that they need.
 
-use super::{free, inode, names, open_to_change};
+use super::{free, inode, names, open_to_change, paths};
 use crate::arguments::Arguments;
 use crate::failure::{refused, Failure, Outcome};
+use crate::path::VolumePath;
 use crate::room::{is_stuck, way_out};
 use crate::store::Store;
 use crate::text::{complain, say, thousands};
-use calls::layout::DIRECTORY;
+use calls::layout::ROOT;
 use refusal::Refusal;
-use std::collections::BTreeSet;
-use std::os::unix::ffi::OsStrExt;
+use std::collections::BTreeMap;
 
 /// Cleans the logs that the arguments name, or all.
 pub fn run(arguments: &Arguments) -> Outcome {
@@ -30,29 +30,25 @@ pub fn run(arguments: &Arguments) -> Outcome {
     Err(Failure::Said(1))
 }
 
-/// The inodes to clean, ascending, so the directory first.
-fn inodes(store: &Store, arguments: &Arguments) -> Result<BTreeSet<u64>, Failure> {
-    let every = arguments.plain().is_empty() && !arguments.has("--directory");
-    let mut inodes = BTreeSet::new();
-    if every || arguments.has("--directory") {
-        inodes.insert(DIRECTORY);
+/// The inodes to clean, ascending, so the root first, each with the path by which it is named.
+fn inodes(store: &Store, arguments: &Arguments) -> Result<BTreeMap<u64, String>, Failure> {
+    let mut inodes = BTreeMap::new();
+    for path in paths(arguments) {
+        inodes.insert(inode(store, &path)?, path.shown());
     }
-    if every {
+    if arguments.plain().is_empty() {
+        inodes.insert(ROOT, VolumePath::root().shown());
         for name in names(store)? {
-            inodes.insert(inode(store, &name)?);
+            inodes.entry(name.inode).or_insert(name.path.shown());
         }
-    }
-    for name in arguments.plain() {
-        inodes.insert(inode(store, name.as_bytes())?);
     }
     Ok(inodes)
 }
 
 /// Cleans logs one after another; answers how many had no room for their new log and were skipped.
-fn clean_all(store: &mut Store, inodes: BTreeSet<u64>) -> Result<u64, Failure> {
+fn clean_all(store: &mut Store, inodes: BTreeMap<u64, String>) -> Result<u64, Failure> {
     let mut skipped = 0;
-    for inode in inodes {
-        let what = format!("inode {inode}");
+    for (inode, what) in inodes {
         match store.change(&what, |volume, list| calls::clean(volume, inode, list)) {
             Ok(_) => {}
             Err(Failure::Refused {

@@ -1,41 +1,90 @@
-//! `ls`, `map`, `gaps` and `log`: what the volume holds, as text.
+//! `ls`, `du`, `map`, `gaps` and `log`: what the volume holds, as text.
 
-use super::{inode, open};
+use super::{inode, open, paths};
 use crate::arguments::Arguments;
 use crate::failure::{Failure, Outcome};
 use crate::files::{in_the_way, write_whole};
+use crate::path::{is_folder, names_beneath, names_in, size_of, Standing, VolumePath};
 use crate::show;
-use crate::store::names_of;
+use crate::store::Store;
 use crate::text::{print, shown_name};
-use calls::layout::DIRECTORY;
+use calls::layout::ROOT;
 use refusal::Refusal;
 use std::env;
 use std::io::{self, IsTerminal};
 use std::path::Path;
 
-/// Lists the names as document 01's volume-list does; on a terminal with names that it can show.
+/// Lists the names in a folder as document 01's volume-list does, or in all folders beneath it, or a file; on a
+/// terminal with names that it can show.
 pub fn ls(arguments: &Arguments) -> Outcome {
-    let store = open(arguments)?;
-    let lines = listing(store.volume(), io::stdout().is_terminal());
+    let (store, path, inode) = open_at(arguments)?;
+    let volume = store.volume();
+    let names = match (is_folder(volume, inode), arguments.has("-R")) {
+        (false, _) => Ok(vec![file_at(path, inode)]),
+        (true, true) => names_beneath(volume, inode, &path),
+        (true, false) => names_in(volume, inode, &VolumePath::root()),
+    };
+    let lines = names.and_then(|names| listing(volume, &names, io::stdout().is_terminal()));
     print(&lines.map_err(|refusal| store.refused_whole(refusal))?)
 }
 
-/// The counts of names and free pages, then inode, size and name of each.
-fn listing(volume: &[u8], shown: bool) -> Result<Vec<u8>, Refusal> {
+/// Opens the volume; answers the path that the command is about too, the root if none is given, and its inode.
+fn open_at(arguments: &Arguments) -> Result<(Store, VolumePath, u64), Failure> {
+    let path = paths(arguments).pop().unwrap_or_else(VolumePath::root);
+    let store = open(arguments)?;
+    let inode = inode(&store, &path)?;
+    Ok((store, path, inode))
+}
+
+/// A file that a path leads to.
+fn file_at(path: VolumePath, inode: u64) -> Standing {
+    Standing {
+        path,
+        folder: ROOT,
+        inode,
+        is_folder: false,
+    }
+}
+
+/// The counts of names and free pages, then inode, size and path of each.
+fn listing(volume: &[u8], names: &[Standing], shown: bool) -> Result<Vec<u8>, Refusal> {
     let free = calls::free_count(volume)?;
-    let names = names_of(volume)?;
     let mut lines = format!("files {} free {free}\n", names.len()).into_bytes();
     for name in names {
-        let inode = calls::find(volume, &name)?;
-        let size = calls::size(volume, inode)?;
-        lines.extend(format!("{inode} {size} ").into_bytes());
-        if shown {
-            lines.extend(shown_name(&name).into_bytes());
-        } else {
-            lines.extend(name);
-        }
-        lines.push(b'\n');
+        let size = size_of(volume, name.inode)?;
+        lines.extend(format!("{} ", name.inode).into_bytes());
+        lines.extend(line(size, &name.marked(), shown));
     }
+    Ok(lines)
+}
+
+/// A size and a path in a line.
+fn line(size: u64, path: &[u8], shown: bool) -> Vec<u8> {
+    let path = match shown {
+        true => shown_name(path).into_bytes(),
+        false => path.to_vec(),
+    };
+    [format!("{size} ").as_bytes(), &path, b"\n"].concat()
+}
+
+/// Prints the totals of all folders beneath a folder, and last its own; of a file its size.
+pub fn du(arguments: &Arguments) -> Outcome {
+    let (store, path, inode) = open_at(arguments)?;
+    let lines = totals(store.volume(), path, inode, io::stdout().is_terminal());
+    print(&lines.map_err(|refusal| store.refused_whole(refusal))?)
+}
+
+/// The lines of `du`: folders stand behind those that are in them.
+fn totals(volume: &[u8], path: VolumePath, inode: u64, shown: bool) -> Result<Vec<u8>, Refusal> {
+    let mut lines = Vec::new();
+    if is_folder(volume, inode) {
+        let mut folders = names_in(volume, inode, &path)?;
+        folders.retain(|name| name.is_folder);
+        for folder in folders {
+            lines.extend(totals(volume, folder.path, folder.inode, shown)?);
+        }
+    }
+    lines.extend(line(size_of(volume, inode)?, &path.bytes(), shown));
     Ok(lines)
 }
 
@@ -73,17 +122,17 @@ pub fn gaps(arguments: &Arguments) -> Outcome {
     print(text.as_bytes())
 }
 
-/// Tells a log in words: a file's, or the directory's.
+/// Tells a log in words: that of a file or a folder, or the root's.
 pub fn log(arguments: &Arguments) -> Outcome {
     let number = arguments.number("--inode")?;
-    let name = arguments.bytes(0);
-    if name.is_some() && number.is_some() {
-        return Err(Failure::Use("log: NAME and --inode name two logs".into()));
+    let path = paths(arguments).pop();
+    if path.is_some() && number.is_some() {
+        return Err(Failure::Use("log: PATH and --inode name two logs".into()));
     }
     let store = open(arguments)?;
-    let inode = match name {
-        Some(name) => inode(&store, name)?,
-        None => number.unwrap_or(DIRECTORY),
+    let inode = match path {
+        Some(path) => inode(&store, &path)?,
+        None => number.unwrap_or(ROOT),
     };
     let text = show::log_text(store.volume(), inode);
     let refused = |refusal| store.refused(&format!("inode {inode}"), refusal);
@@ -93,6 +142,7 @@ pub fn log(arguments: &Arguments) -> Outcome {
 #[cfg(test)]
 mod tests {
     use super::listing;
+    use crate::path::all_names;
     use samples::{create, done, formatted};
 
     /// Only where they are shown, names that a terminal would not take are written with `\xNN`.
@@ -100,9 +150,9 @@ mod tests {
     fn names_of_any_bytes() {
         let mut volume = formatted(16, 8);
         done(&mut volume, &create(b"a\x1B\xFF"));
-        let shown = b"files 1 free 13\n1 0 a\\x1B\\xFF\n";
-        assert_eq!(listing(&volume, true).as_deref(), Ok(shown.as_slice()));
-        let plain = b"files 1 free 13\n1 0 a\x1B\xFF\n";
-        assert_eq!(listing(&volume, false).as_deref(), Ok(plain.as_slice()));
+        let names = all_names(&volume).expect("accepted");
+        let lines = |shown| listing(&volume, &names, shown).expect("accepted");
+        assert_eq!(lines(true), b"files 1 free 13\n1 0 a\\x1B\\xFF\n");
+        assert_eq!(lines(false), b"files 1 free 13\n1 0 a\x1B\xFF\n");
     }
 }

@@ -1,9 +1,9 @@
 //! `recover`: the journal closed, and what a killed put left removed.
 
-use super::{open_to_change, remove_part, PART};
+use super::{open_to_change, remove_part};
 use crate::arguments::Arguments;
 use crate::failure::Outcome;
-use crate::text::{counted, say, shown_name};
+use crate::text::{counted, say};
 use calls::list::groups;
 
 /// Recovers the volume and says what was done.
@@ -16,11 +16,10 @@ pub fn run(arguments: &Arguments) -> Outcome {
         say(&format!("journal closed: {words} put back"))?;
     }
     let part = part?;
-    if part {
-        let name = shown_name(PART);
-        say(&format!("{name} removed: a killed put left it"))?;
+    if let Some(path) = &part {
+        say(&format!("{path} removed: a killed put left it"))?;
     }
-    if list.is_empty() && !part {
+    if list.is_empty() && part.is_none() {
         say("nothing to do")?;
     }
     store.say_if_uncut();

@@ -1,8 +1,8 @@
 //! An inode's log in words, its entries with their places.
 
-use super::pages::names_of;
+use super::paths::Paths;
 use super::words::{counted, put_back, quoted, quoted_names, range};
-use reference::layout::DIRECTORY;
+use calls::layout::ROOT;
 use reference::{Entry, Log, Placed, Volume};
 
 /// The log of an inode in words; none if the inode is not valid.
@@ -29,15 +29,21 @@ fn head_line(volume: &Volume<'_>, inode: u64, log: &Log, count: usize) -> String
 }
 
 fn inode_text(volume: &Volume<'_>, inode: u64) -> String {
-    if inode == DIRECTORY {
-        let names = counted(volume.names.len(), "name", "names");
-        return format!("inode {inode}, directory, {names}");
+    let count = volume
+        .folders
+        .get(&inode)
+        .map(|names| counted(names.len(), "name", "names"));
+    let paths = Paths::of(volume).to(inode);
+    let quoted = quoted_names(&paths);
+    match (count, volume.files.get(&inode)) {
+        (Some(count), _) if inode == ROOT => format!("inode {inode}, root, {count}"),
+        (Some(count), _) => format!("inode {inode}, folder {quoted}, {count}"),
+        (None, file) => {
+            let plural = if paths.len() == 1 { "name" } else { "names" };
+            let size = file.map_or(0, |file| file.size);
+            format!("inode {inode}, file, {plural} {quoted}, size {size}")
+        }
     }
-    let names = names_of(volume, inode);
-    let plural = if names.len() == 1 { "name" } else { "names" };
-    let quoted = quoted_names(&names);
-    let size = volume.files.get(&inode).map_or(0, |file| file.size);
-    format!("inode {inode}, file, {plural} {quoted}, size {size}")
 }
 
 fn entry_line(volume: &Volume<'_>, entry: &Placed<'_>) -> String {

@@ -91,7 +91,7 @@ fn paint(inode: u64, letters: &str) -> String {
 }
 
 /// The table of the inodes, with a head line.
-fn table(inodes: &[Inode<'_>], width: usize, colour: bool) -> Vec<String> {
+fn table(inodes: &[Inode], width: usize, colour: bool) -> Vec<String> {
     let head = ["inode", "names", "size", "log pages", "data pages"];
     let mut rows = vec![head.map(|text| vec![text.to_string()])];
     rows.extend(inodes.iter().map(row));
@@ -102,16 +102,15 @@ fn table(inodes: &[Inode<'_>], width: usize, colour: bool) -> Vec<String> {
     table::lines(&rows, width, paint_number)
 }
 
-fn row(inode: &Inode<'_>) -> table::Row {
-    let names = match inode.is_directory() {
-        true => vec!["the directory".to_string()],
-        false => inode.names.iter().map(|name| quoted(name)).collect(),
+fn row(inode: &Inode) -> table::Row {
+    let names = match inode.is_root() {
+        true => vec!["the root".to_string()],
+        false => inode.paths.iter().map(|path| quoted(path)).collect(),
     };
-    let size = inode.size.map(|size| size.to_string());
     [
         vec![inode.number.to_string()],
         names,
-        or_dash(size.into_iter().collect()),
+        vec![inode.size.to_string()],
         or_dash(ranges(&inode.log)),
         or_dash(ranges(&inode.data)),
     ]

@@ -18,7 +18,7 @@
 //! assert_eq!(reason(&volume), None);
 //!
 //! let mut list = vec![0; 4_096];
-//! let count = create(&volume, b"A1", &mut list)?;
+//! let count = create(&volume, 0, b"A1", &mut list)?;
 //! carry_out(&mut volume, &list, count)?;
 //! assert!(map_text(&volume, 80, false)?.contains("16 pages: 2 fixed, 1 log, 0 data, 13 free"));
 //! assert!(log_text(&volume, 0)?.contains("page 2, entry 1: add \"A1\" for inode 1"));
@@ -26,10 +26,12 @@
 //! ```
 
 mod colour;
+mod damaged;
 mod gaps;
 mod log;
 mod map;
 mod pages;
+mod paths;
 mod picture;
 mod reason;
 mod stretch;
@@ -82,8 +84,8 @@ pub fn reason(volume: &[u8]) -> Option<String> {
 ///        _ longest free stretch: 14 pages, 2-15
 ///  0  ##______ ________
 ///
-/// inode  names          size  log pages  data pages
-///     0  the directory     -  -          -
+/// inode  names     size  log pages  data pages
+///     0  the root     0  -          -
 ///
 /// 16 pages: 2 fixed, 0 log, 0 data, 14 free
 /// "
@@ -138,7 +140,7 @@ pub fn gaps_text(volume: &[u8]) -> Result<String, Refusal> {
 
 /// The log of a valid inode in words: a line about the inode, then one line per entry.
 ///
-/// Inode 0 is the directory. The refusals are 2 ([`Refusal::NoVolume`]), 3 ([`Refusal::Damaged`]) and 6
+/// Inode 0 is the root. The refusals are 2 ([`Refusal::NoVolume`]), 3 ([`Refusal::Damaged`]) and 6
 /// ([`Refusal::NotThere`], an inode that is invalid or out of range); an open journal is put back, and the
 /// text says so.
 ///
@@ -148,7 +150,7 @@ pub fn gaps_text(volume: &[u8]) -> Result<String, Refusal> {
 ///
 /// let mut volume = vec![0; 16 * 512];
 /// calls::format(&mut volume, 16, 8).unwrap();
-/// assert_eq!(log_text(&volume, 0), Ok("inode 0, directory, 0 names: empty log\n".to_string()));
+/// assert_eq!(log_text(&volume, 0), Ok("inode 0, root, 0 names: empty log\n".to_string()));
 /// assert_eq!(log_text(&volume, 1), Err(Refusal::NotThere));
 /// ```
 pub fn log_text(volume: &[u8], inode: u64) -> Result<String, Refusal> {

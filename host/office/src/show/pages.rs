@@ -1,7 +1,8 @@
 //! What the pages of an accepted volume serve for, by page and by inode.
 
+use super::paths::Paths;
 use super::stretch::Stretch;
-use reference::layout::DIRECTORY;
+use calls::layout::ROOT;
 use reference::{Use, Volume};
 
 /// A page of a volume.
@@ -26,33 +27,35 @@ pub(super) fn pages(volume: &Volume<'_>, longest: Option<Stretch>) -> Vec<Page> 
 }
 
 /// A valid inode and its pages.
-pub(super) struct Inode<'v> {
+pub(super) struct Inode {
     /// The inode's number.
     pub(super) number: u64,
-    /// The names that lead to it, in list order.
-    pub(super) names: Vec<&'v [u8]>,
-    /// The file's size; none for the directory.
-    pub(super) size: Option<u64>,
+    /// The paths that lead to it, in list order, a folder's with a "/" at the end; none for the root.
+    pub(super) paths: Vec<Vec<u8>>,
+    /// The file's size, or the folder's total.
+    pub(super) size: u64,
     /// The pages of its log, ascending.
     pub(super) log: Vec<u64>,
     /// Its mapped data pages, ascending.
     pub(super) data: Vec<u64>,
 }
 
-impl Inode<'_> {
-    /// Whether this is the directory.
-    pub(super) fn is_directory(&self) -> bool {
-        self.number == DIRECTORY
+impl Inode {
+    /// Whether this is the root.
+    pub(super) fn is_root(&self) -> bool {
+        self.number == ROOT
     }
 }
 
 /// The valid inodes of a volume, ascending.
-pub(super) fn inodes<'v>(volume: &Volume<'v>) -> Vec<Inode<'v>> {
-    let numbers = volume.logs.keys();
-    numbers.map(|&number| inode(volume, number)).collect()
+pub(super) fn inodes(volume: &Volume<'_>) -> Vec<Inode> {
+    let (paths, numbers) = (Paths::of(volume), volume.logs.keys());
+    numbers
+        .map(|&number| inode(volume, &paths, number))
+        .collect()
 }
 
-fn inode<'v>(volume: &Volume<'v>, number: u64) -> Inode<'v> {
+fn inode(volume: &Volume<'_>, paths: &Paths, number: u64) -> Inode {
     let pages_that = |serves: &dyn Fn(&Use) -> bool| -> Vec<u64> {
         let pages = (0..).zip(&volume.uses);
         let serving = pages.filter(|(_, page)| serves(page));
@@ -60,17 +63,11 @@ fn inode<'v>(volume: &Volume<'v>, number: u64) -> Inode<'v> {
     };
     Inode {
         number,
-        names: names_of(volume, number),
-        size: volume.files.get(&number).map(|file| file.size),
+        paths: paths.to(number),
+        size: volume.name_total(number),
         log: pages_that(&|page| matches!(page, Use::Log { inode } if *inode == number)),
         data: pages_that(&|page| matches!(page, Use::Data { inode, .. } if *inode == number)),
     }
-}
-
-/// The names that lead to an inode, in list order.
-pub(super) fn names_of<'v>(volume: &Volume<'v>, inode: u64) -> Vec<&'v [u8]> {
-    let leading = volume.names.iter().filter(|pair| pair.1 == inode);
-    leading.map(|pair| pair.0).collect()
 }
 
 /// The inode that a page serves; none for fixed and free pages.

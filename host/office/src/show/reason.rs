@@ -1,10 +1,13 @@
 //! Why a volume is refused, in words: a sentence for each thing that the reference model can find
 //! wrong.
 
+use super::damaged::path_of;
 use super::pages::use_text;
 use super::words::{inode_word, open_entries, quoted};
+use calls::layout::ROOT;
 use reference::layout::{
-    DIRECTORY, FILE_PAGES, NAME_BYTES, NAME_LIMIT, OPEN_LIMIT, PAGE_BYTES, SIZE_LIMIT,
+    type_word, word, DEQUEUE_WORD, ENQUEUE_WORD, FILE_PAGES, FOLDER_TYPE, NAME_BYTES, NAME_LIMIT,
+    OPEN_LIMIT, PAGE_BYTES, SIZE_LIMIT,
 };
 use reference::{examine, BadEntry, BadJournal, BadLog, BadNames, Damage, Fault, NoVolume};
 use refusal::Refusal;
@@ -18,16 +21,18 @@ pub(super) fn found(volume: &[u8]) -> Option<(Refusal, String)> {
             (!open.is_empty()).then(|| (Refusal::JournalOpen, open_entries(open)))
         }
         Err(fault) => {
-            let words = fault_text(&fault);
+            let words = fault_text(volume, &fault);
             Some((fault.into(), words))
         }
     }
 }
 
-fn fault_text(fault: &Fault) -> String {
+fn fault_text(volume: &[u8], fault: &Fault) -> String {
     match fault {
         Fault::NoVolume(why) => no_volume(why),
-        Fault::Damaged { damage, put_back } => damage_text(damage) + &read_put_back(*put_back),
+        Fault::Damaged { damage, put_back } => {
+            damage_text(volume, damage) + &read_put_back(*put_back)
+        }
     }
 }
 
@@ -66,12 +71,15 @@ fn no_volume(why: &NoVolume) -> String {
     }
 }
 
-fn damage_text(damage: &Damage) -> String {
+fn damage_text(volume: &[u8], damage: &Damage) -> String {
     match damage {
         Damage::Journal(wrong) => journal(wrong),
-        Damage::NoDirectory => "inode 0, the directory, is not valid".to_string(),
+        Damage::NoDirectory => "inode 0, the root, is not valid".to_string(),
         Damage::ValidWord { inode, value } => {
             format!("inode {inode}: its valid word is {value}, not 0 or 1")
+        }
+        Damage::Type { inode, value } => {
+            format!("inode {inode}: its type is {value}, not 0 (a file) or 1 (a folder)")
         }
         Damage::Log { inode, wrong } => format!("inode {inode}: its {}", log(wrong)),
         Damage::Entry {
@@ -80,10 +88,10 @@ fn damage_text(damage: &Damage) -> String {
             number,
             wrong,
         } => {
-            let wrong = entry(wrong, *inode);
+            let wrong = entry(wrong, has_names(volume, *inode));
             format!("inode {inode}, log page {page}, entry {number}: {wrong}")
         }
-        Damage::Names(wrong) => names(wrong),
+        Damage::Names(wrong) => names(volume, wrong),
         Damage::ServesTwice { page, uses } => {
             let [one, other] = uses.map(use_text);
             format!("page {page} serves twice: {one} and {other}")
@@ -149,16 +157,17 @@ fn log(wrong: &BadLog) -> String {
     }
 }
 
-/// What is wrong with an entry of an inode's log.
-fn entry(wrong: &BadEntry, inode: u64) -> String {
+/// Whether an inode's log is one of names: the root's, or a folder's by its type.
+fn has_names(volume: &[u8], inode: u64) -> bool {
+    inode == ROOT || word(volume, type_word(inode)) == FOLDER_TYPE
+}
+
+/// What is wrong with an entry of an inode's log, of names or not.
+fn entry(wrong: &BadEntry, has_names: bool) -> String {
     match wrong {
         BadEntry::Kind { kind } => {
-            let whose = if inode == DIRECTORY {
-                "the directory"
-            } else {
-                "a file"
-            };
-            format!("kind {kind} is none of {whose}'s")
+            let whose = if has_names { "folder" } else { "file" };
+            format!("kind {kind} is none of a {whose}'s")
         }
         BadEntry::Size { size } => format!("size {size} is over {SIZE_LIMIT}"),
         BadEntry::Count { count } => format!("page count {count} is not 1 to {FILE_PAGES}"),
@@ -186,14 +195,46 @@ fn entry(wrong: &BadEntry, inode: u64) -> String {
     }
 }
 
-fn names(wrong: &BadNames) -> String {
+fn names(volume: &[u8], wrong: &BadNames) -> String {
     match wrong {
-        BadNames::Many { count } => format!("{count} names stand, more than {NAME_LIMIT}"),
-        BadNames::NoFile { name, inode } => {
-            let name = quoted(name);
-            format!("the name {name} leads to inode {inode}, which is not valid")
+        BadNames::Many { folder, count } => {
+            let folder = folder_text(volume, *folder);
+            format!("{count} names stand in {folder}, more than {NAME_LIMIT}")
+        }
+        BadNames::NoFile {
+            folder,
+            name,
+            inode,
+        } => {
+            let (name, folder) = (quoted(name), folder_text(volume, *folder));
+            format!("the name {name} in {folder} leads to inode {inode}, which is not valid")
         }
         BadNames::NoName { inode } => format!("inode {inode} is valid and has no name"),
+        BadNames::NotOneName { inode, count: 0 } => {
+            format!("inode {inode} is a valid folder and has no name")
+        }
+        BadNames::NotOneName { inode, count } => {
+            format!("inode {inode} is a folder and has {count} names, not one")
+        }
+        BadNames::NotReached { inode } => {
+            format!("inode {inode} is a folder that no path from the root leads to")
+        }
+    }
+}
+
+/// A folder in words, with its path where that can be read.
+fn folder_text(volume: &[u8], folder: u64) -> String {
+    if folder == ROOT {
+        return "the root".to_string();
+    }
+    // An open entry of the journal may change what a path is read from.
+    let closed = word(volume, DEQUEUE_WORD) == word(volume, ENQUEUE_WORD);
+    match path_of(volume, folder).filter(|_| closed) {
+        Some(path) => {
+            let path = [path.bytes(), b"/".to_vec()].concat();
+            format!("the folder {} (inode {folder})", quoted(&path))
+        }
+        None => format!("the folder inode {folder}"),
     }
 }
 

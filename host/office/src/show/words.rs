@@ -15,7 +15,7 @@ fn printable(letter: char) -> bool {
 }
 
 /// Names in quotes, with commas between them.
-pub(super) fn quoted_names(names: &[&[u8]]) -> String {
+pub(super) fn quoted_names(names: &[Vec<u8>]) -> String {
     let quoted: Vec<String> = names.iter().map(|name| self::quoted(name)).collect();
     quoted.join(", ")
 }

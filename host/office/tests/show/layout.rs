@@ -102,14 +102,14 @@ fn long_cells() {
         .skip_while(|line| !line.starts_with("inode"))
         .collect();
     let expected = [
-        "inode  names                 size  log pages       data pages",
-        "    0  the directory            -  2               -",
-        "    1  \"name 0\", \"name 1\",  65536  20, 30, 40, 50  100, 102, 104, 106, 108,",
-        "       \"name 2\", \"name 3\",                         110, 112, 114, 116, 118,",
-        "       \"name 4\", \"name 5\",                         120, 122, 124, 126, 128,",
-        "       \"name 6\"                                    130, 132, 134, 136, 138,",
-        "                                                   140, 142, 144, 146, 148,",
-        "                                                   150, 152, 154",
+        "inode  names                  size  log pages       data pages",
+        "    0  the root             458752  2               -",
+        "    1  \"name 0\", \"name 1\",   65536  20, 30, 40, 50  100, 102, 104, 106, 108,",
+        "       \"name 2\", \"name 3\",                          110, 112, 114, 116, 118,",
+        "       \"name 4\", \"name 5\",                          120, 122, 124, 126, 128,",
+        "       \"name 6\"                                     130, 132, 134, 136, 138,",
+        "                                                    140, 142, 144, 146, 148,",
+        "                                                    150, 152, 154",
         "",
         "300 pages: 2 fixed, 5 log, 28 data, 265 free",
     ];

@@ -2,10 +2,11 @@
 
 use crate::{case_j, cases};
 use office::show::reason;
-use reference::layout::{head_word, set_word, tail_word, valid_word, word};
+use reference::layout::{head_word, set_word, tail_word, type_word, valid_word, word};
 use refusal::Refusal;
 use samples::{
-    entry_add, entry_remove, entry_size, entry_write, formatted, long_directory, put_log, sample,
+    entry_add, entry_remove, entry_size, entry_write, formatted, long_directory, put_folder,
+    put_log, sample,
 };
 
 /// The sample with these words changed.
@@ -17,8 +18,8 @@ fn with(changes: &[(u64, u64)]) -> Vec<u8> {
     volume
 }
 
-/// The sample with the directory's log made of these entries.
-fn with_directory(entries: &[[u64; 8]]) -> Vec<u8> {
+/// The sample with the root's log made of these entries.
+fn with_root(entries: &[[u64; 8]]) -> Vec<u8> {
     let mut volume = sample();
     put_log(&mut volume, 0, &[3], entries);
     volume
@@ -145,14 +146,14 @@ fn read_put_back() {
     );
     damaged(
         &with(&[(9, 2), (16, 80), (17, 0), (18, 72), (19, 1)]),
-        "the name \"B2\" leads to inode 2, which is not valid \
+        "the name \"B2\" in the root leads to inode 2, which is not valid \
          (read with the journal's 2 open entries put back)",
     );
 }
 
 #[test]
 fn valid_words() {
-    damaged(&with(&[(64, 0)]), "inode 0, the directory, is not valid");
+    damaged(&with(&[(64, 0)]), "inode 0, the root, is not valid");
     damaged(
         &with(&[(64, 3)]),
         "inode 0: its valid word is 3, not 0 or 1",
@@ -204,12 +205,12 @@ fn walks() {
 fn kinds() {
     let add = entry_add(1, b"A1");
     damaged(
-        &with_directory(&[add, add, [9, 0, 0, 0, 0, 0, 0, 0]]),
-        "inode 0, log page 3, entry 3: kind 9 is none of the directory's",
+        &with_root(&[add, add, [9, 0, 0, 0, 0, 0, 0, 0]]),
+        "inode 0, log page 3, entry 3: kind 9 is none of a folder's",
     );
     damaged(
-        &with_directory(&[entry_size(0)]),
-        "inode 0, log page 3, entry 1: kind 2 is none of the directory's",
+        &with_root(&[entry_size(0)]),
+        "inode 0, log page 3, entry 1: kind 2 is none of a folder's",
     );
     damaged(
         &with_file(&[entry_size(0), add]),
@@ -261,22 +262,22 @@ fn names_of_entries() {
         let mut add = entry_add(1, b"A1");
         add[2] = length;
         damaged(
-            &with_directory(&[add]),
+            &with_root(&[add]),
             &format!("{entry}: name length {length} is not 1 to 32"),
         );
     }
     damaged(
-        &with_directory(&[entry_remove(b"a/b")]),
+        &with_root(&[entry_remove(b"a/b")]),
         &format!("{entry}: the name \"a/b\" has byte 47"),
     );
     damaged(
-        &with_directory(&[entry_add(1, b"a\0b")]),
+        &with_root(&[entry_add(1, b"a\0b")]),
         &format!("{entry}: the name \"a\\x00b\" has byte 0"),
     );
     let mut short = entry_add(1, b"A1");
     short[2] = 1;
     damaged(
-        &with_directory(&[short]),
+        &with_root(&[short]),
         &format!("{entry}: the bytes after the name \"A\" are not all 0"),
     );
 }
@@ -285,7 +286,7 @@ fn names_of_entries() {
 fn added_inodes() {
     for inode in [0, 16, u64::MAX] {
         damaged(
-            &with_directory(&[entry_add(inode, b"A1")]),
+            &with_root(&[entry_add(inode, b"A1")]),
             &format!("inode 0, log page 3, entry 1: the added inode {inode} is not 1 to 15"),
         );
     }
@@ -294,20 +295,75 @@ fn added_inodes() {
 #[test]
 fn standing_names() {
     assert_eq!(reason(&long_directory(224)), None);
-    damaged(&long_directory(225), "225 names stand, more than 224");
+    damaged(
+        &long_directory(225),
+        "225 names stand in the root, more than 224",
+    );
     let adds = [entry_add(1, b"A1"), entry_add(2, b"B2")];
     damaged(
-        &with_directory(&[adds[0], adds[1], entry_add(5, b"\xff")]),
-        "the name \"\\xFF\" leads to inode 5, which is not valid",
+        &with_root(&[adds[0], adds[1], entry_add(5, b"\xff")]),
+        "the name \"\\xFF\" in the root leads to inode 5, which is not valid",
     );
     damaged(
-        &with_directory(&[adds[0], adds[1], entry_remove(b"B2")]),
+        &with_root(&[adds[0], adds[1], entry_remove(b"B2")]),
         "inode 2 is valid and has no name",
     );
     damaged(
-        &with_directory(&[adds[0], adds[1], entry_add(1, b"B2")]),
+        &with_root(&[adds[0], adds[1], entry_add(1, b"B2")]),
         "inode 2 is valid and has no name",
     );
+}
+
+/// A valid type word, each folder with one name, and a path from the root to it.
+#[test]
+fn folders() {
+    damaged(
+        &with(&[(type_word(1), 2)]),
+        "inode 1: its type is 2, not 0 (a file) or 1 (a folder)",
+    );
+    damaged(
+        &with(&[(type_word(1), 1)]),
+        "inode 1, log page 4, entry 1: kind 1 is none of a folder's",
+    );
+    let adds = [entry_add(1, b"A1"), entry_add(2, b"B2")];
+    let folder = |root: &[[u64; 8]], entries: &[[u64; 8]]| {
+        let mut volume = with_root(&[&adds, root].concat());
+        put_folder(&mut volume, 3, &[12], entries);
+        volume
+    };
+    let (one, other) = (entry_add(3, b"f"), entry_add(3, b"g"));
+    let inside = entry_add(1, b"x");
+    assert_eq!(reason(&folder(&[one], &[inside])), None);
+    damaged(
+        &folder(&[one, other], &[inside]),
+        "inode 3 is a folder and has 2 names, not one",
+    );
+    damaged(
+        &folder(&[], &[inside]),
+        "inode 3 is a valid folder and has no name",
+    );
+    damaged(
+        &folder(&[], &[one]),
+        "inode 3 is a folder that no path from the root leads to",
+    );
+    damaged(
+        &folder(&[one], &[entry_add(9, b"x")]),
+        "the name \"x\" in the folder \"f/\" (inode 3) leads to inode 9, which is not valid",
+    );
+    damaged(
+        &folder(&[one], &[entry_size(0)]),
+        "inode 3, log page 12, entry 1: kind 2 is none of a folder's",
+    );
+}
+
+/// Every volume with damaged folders has its reason.
+#[test]
+fn damaged_folders() {
+    for sample in samples::damaged_folders() {
+        let reason = reason(&sample.volume).expect("damaged");
+        let title = &sample.title;
+        assert!(!reason.contains("does not know"), "{title}{reason}");
+    }
 }
 
 #[test]

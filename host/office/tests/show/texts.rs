@@ -14,9 +14,9 @@ pages: # fixed, L log, D data, . free
        _ longest free stretch: 13 pages, 3-15
  0  ##L_____ ________
 
-inode  names          size  log pages  data pages
-    0  the directory     -  2          -
-    1  \"A1\"              0  -          -
+inode  names     size  log pages  data pages
+    0  the root     0  2          -
+    1  \"A1\"         0  -          -
 
 16 pages: 2 fixed, 1 log, 0 data, 13 free
 ";
@@ -26,9 +26,9 @@ pages: # fixed, L log, D data, . free
        _ longest free stretch: 10 pages, 6-15
  0  ##LDDL__ ________
 
-inode  names          size  log pages  data pages
-    0  the directory     -  2          -
-    1  \"A1\"            514  5          3-4
+inode  names     size  log pages  data pages
+    0  the root   514  2          -
+    1  \"A1\"       514  5          3-4
 
 16 pages: 2 fixed, 2 log, 2 data, 10 free
 ";
@@ -38,9 +38,9 @@ pages: # fixed, L log, D data, . free
        _ longest free stretch: 9 pages, 7-15
  0  ##L..LD_ ________
 
-inode  names          size  log pages  data pages
-    0  the directory     -  2          -
-    1  \"A1\"            100  5          6
+inode  names     size  log pages  data pages
+    0  the root   100  2          -
+    1  \"A1\"       100  5          6
 
 16 pages: 2 fixed, 2 log, 1 data, 11 free
 ";
@@ -50,9 +50,9 @@ pages: # fixed, L log, D data, . free
        _ longest free stretch: 9 pages, 7-15
  0  ##LL..D_ ________
 
-inode  names          size  log pages  data pages
-    0  the directory     -  2          -
-    1  \"A1\"            100  3          6
+inode  names     size  log pages  data pages
+    0  the root   100  2          -
+    1  \"A1\"       100  3          6
 
 16 pages: 2 fixed, 2 log, 1 data, 11 free
 ";
@@ -85,12 +85,12 @@ total: 11 free pages in 2 stretches
 #[test]
 fn logs_of_the_cases() {
     let [b, c, d, e] = cases();
-    let directory = "\
-inode 0, directory, 1 name: log of 1 entry on 1 page, head 2, tail 1088
+    let root = "\
+inode 0, root, 1 name: log of 1 entry on 1 page, head 2, tail 1088
 page 2, entry 1: add \"A1\" for inode 1
 ";
     for volume in [&b, &c, &d, &e] {
-        assert_eq!(log_text(volume, 0).unwrap(), directory);
+        assert_eq!(log_text(volume, 0).unwrap(), root);
     }
     let expected = "inode 1, file, name \"A1\", size 0: empty log\n";
     assert_eq!(log_text(&b, 1).unwrap(), expected);
@@ -125,15 +125,15 @@ pages: # fixed, L log, D data, . free
        _ longest free stretch: 14 pages, 2-15
  0  ##______ ________
 
-inode  names          size  log pages  data pages
-    0  the directory     -  -          -
+inode  names     size  log pages  data pages
+    0  the root     0  -          -
 
 {line}
 16 pages: 2 fixed, 0 log, 0 data, 14 free
 "
     );
     assert_eq!(map_text(&volume, 80, false).unwrap(), map);
-    let log = format!("inode 0, directory, 0 names: empty log\n{line}\n");
+    let log = format!("inode 0, root, 0 names: empty log\n{line}\n");
     assert_eq!(log_text(&volume, 0).unwrap(), log);
     assert_eq!(log_text(&volume, 1), Err(Refusal::NotThere));
     assert_eq!(gaps_text(&volume), Err(Refusal::JournalOpen));
@@ -172,7 +172,7 @@ page 4, entry 1: set size: 9
     assert_eq!(log_text(&volume, 1).unwrap(), expected);
     done(&mut volume, &unlink(b"A1"));
     let expected = "\
-inode 0, directory, 2 names: log of 4 entries on 1 page, head 3, tail 1792
+inode 0, root, 2 names: log of 4 entries on 1 page, head 3, tail 1792
 page 3, entry 1: add \"A1\" for inode 1
 page 3, entry 2: add \"B2\" for inode 2
 page 3, entry 3: add \"tw\\xFFo \\x22\\x0A\" for inode 1
@@ -187,7 +187,7 @@ pages: # fixed, L log, D data, . free
 16  __L.
 
 inode  names               size  log pages  data pages
-    0  the directory          -  3          -
+    0  the root            2009  3          -
     1  \"tw\\xFFo \\x22\\x0A\"     9  4          -
     2  \"B2\"                2000  12, 18     5-7
 

@@ -1,15 +1,19 @@
 //! The built tool, run in a folder of the test's own; and the file maps that its commands pass through.
 #![allow(dead_code)]
 
+use calls::layout::ROOT;
 use office::commands::PART;
 use reference::layout::WRITE_LIMIT;
+use reference::random::Random;
 use reference::{judge, Call, FileMap};
 use samples::{create, done, map_of, rename, run, set_size, text, unlink, write};
 use std::ffi::OsStr;
 use std::fs;
 use std::io::Write;
+use std::os::unix::process::ExitStatusExt;
 use std::path::{Path, PathBuf};
 use std::process::{Child, Command, Output, Stdio};
+use std::time::{Duration, Instant};
 
 /// A folder that goes when the test ends.
 pub struct Folder {
@@ -185,9 +189,9 @@ pub fn each_fails(folder: &Folder, status: i32, cases: &[(&[&str], &str)]) {
 }
 
 /// A volume of 16 pages and 8 inodes with the files "a" (one page) and "e" (empty). The logs of the
-/// directory and of "a" are on so many pages, for the directory an even number, all full and nearly
+/// root and of "a" are on so many pages, for the root an even number, all full and nearly
 /// all dead; the other pages are free.
-pub fn with_long_logs(directory: u64, file: u64) -> Vec<u8> {
+pub fn with_long_logs(root: u64, file: u64) -> Vec<u8> {
     let mut volume = samples::formatted(16, 8);
     done(&mut volume, &create(b"a"));
     done(&mut volume, &create(b"e"));
@@ -195,14 +199,14 @@ pub fn with_long_logs(directory: u64, file: u64) -> Vec<u8> {
     for number in 1..7 * file {
         done(&mut volume, &set_size(1, 500 + number));
     }
-    for _ in 0..(7 * directory - 2) / 2 {
+    for _ in 0..(7 * root - 2) / 2 {
         done(&mut volume, &create(b"t"));
         done(&mut volume, &unlink(b"t"));
     }
     let judged = judge(&volume).expect("accepted");
-    assert_eq!(judged.free_pages(), 13 - directory - file);
+    assert_eq!(judged.free_pages(), 13 - root - file);
     let pages = [0, 1].map(|inode| judged.logs[&inode].pages.len() as u64);
-    assert_eq!(pages, [directory, file]);
+    assert_eq!(pages, [root, file]);
     volume
 }
 
@@ -225,13 +229,36 @@ impl Ran {
     }
 }
 
+/// Starts a command and kills it at a random moment, up to a bit more than the usual time after the start; answers
+/// whether that came before its end.
+pub fn run_killed(
+    folder: &Folder,
+    random: &mut Random,
+    arguments: &[String],
+    usual: Duration,
+) -> bool {
+    let most = usual.as_micros() as u64 * 11 / 10;
+    let wait = Duration::from_micros(random.below(most));
+    let mut child = folder.start(arguments);
+    let start = Instant::now();
+    while start.elapsed() < wait {
+        std::hint::spin_loop();
+    }
+    child.kill().expect("the child is ours");
+    let status = child.wait().expect("the child is ours");
+    match status.code() {
+        Some(code) => assert!(code < 2, "exit status {code}"),
+        None => assert_eq!(status.signal(), Some(9)),
+    }
+    status.code().is_none()
+}
+
 /// A file map by hand: the names in list order, each with its inode and bytes.
 pub fn files(names: &[(&str, u64, &[u8])]) -> FileMap {
+    let standing = names.iter();
+    let standing = standing.map(|(name, inode, _)| (name.as_bytes().to_vec(), *inode));
     FileMap {
-        names: names
-            .iter()
-            .map(|(name, inode, _)| (name.as_bytes().to_vec(), *inode))
-            .collect(),
+        folders: [(ROOT, standing.collect())].into(),
         files: names
             .iter()
             .map(|(_, inode, bytes)| (*inode, bytes.to_vec()))
@@ -260,7 +287,7 @@ pub fn maps_of_calls(volume: &[u8], calls: &[Call]) -> Vec<FileMap> {
 pub fn calls_of_put(volume: &[u8], files: &[(Vec<u8>, Vec<u8>)]) -> Vec<Call> {
     let mut volume = volume.to_vec();
     let mut calls = Vec::new();
-    if map_of(&volume).inode_of(PART).is_some() {
+    if map_of(&volume).inode_of(ROOT, PART).is_some() {
         calls.push(unlink(PART));
         done(&mut volume, &calls[0]);
     }
@@ -291,9 +318,11 @@ fn calls_of_file(volume: &[u8], name: &[u8], bytes: &[u8]) -> Vec<Call> {
 /// A map without the part that a killed put left.
 pub fn without_part(map: &FileMap) -> FileMap {
     let mut map = map.clone();
-    if let Some(inode) = map.inode_of(PART) {
-        map.names.retain(|(name, _)| name != PART);
-        map.files.remove(&inode);
+    for names in map.folders.values_mut() {
+        if let Some(place) = names.iter().position(|(name, _)| name == PART) {
+            let (_, inode) = names.remove(place);
+            map.files.remove(&inode);
+        }
     }
     map
 }

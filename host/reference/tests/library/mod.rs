@@ -11,6 +11,7 @@ pub const REFERENCE: Library = Library {
     size: reference::size,
     read: reference::read,
     kth_name: reference::kth_name,
+    total: reference::total,
     free_count: reference::free_count,
     gaps: reference::gaps,
 };

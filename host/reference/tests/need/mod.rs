@@ -29,9 +29,33 @@ pub fn need(volume: &Volume<'_>, map: &FileMap, call: &Call) -> Option<Need> {
         })
     };
     match call {
-        Call::Create { .. } | Call::Link { .. } | Call::Unlink { .. } => appended(0, 0, 1),
-        Call::Rename { old, new } if map.inode_of(old) == map.inode_of(new) => None,
-        Call::Rename { .. } => appended(0, 0, 2),
+        Call::Create { folder, .. }
+        | Call::CreateFolder { folder, .. }
+        | Call::Unlink { folder, .. }
+        | Call::Link {
+            new_folder: folder, ..
+        } => appended(*folder, 0, 1),
+        Call::Rename {
+            old_folder,
+            old,
+            new_folder,
+            new,
+        } => {
+            let places = [(*old_folder, old), (*new_folder, new)];
+            let [moved, standing] = places.map(|(folder, name)| map.inode_of(folder, name));
+            if moved == standing {
+                None
+            } else if old_folder == new_folder {
+                appended(*old_folder, 0, 2)
+            } else {
+                let [source, target] = places.map(|(folder, _)| appended(folder, 0, 1));
+                let log_pages = source?.log_pages + target?.log_pages;
+                Some(Need {
+                    data_pages: 0,
+                    log_pages,
+                })
+            }
+        }
         Call::Write { bytes, .. } if bytes.is_empty() => None,
         Call::Write { inode, .. } => {
             let data_pages = covered_pages(call);
@@ -87,8 +111,8 @@ fn log_entries(volume: &Volume<'_>, inode: u64) -> u64 {
 
 /// The count of entries that a log has once it is clean.
 fn clean_entries(volume: &Volume<'_>, inode: u64) -> u64 {
-    if inode == 0 {
-        return volume.names.len() as u64;
+    if let Some(names) = volume.folders.get(&inode) {
+        return names.len() as u64;
     }
     let file = &volume.files[&inode];
     let starts = (0..128).filter(|&page| match file.data_page(page) {
@@ -138,7 +162,11 @@ pub fn refused_for_pages(volume: &Volume<'_>, map: &FileMap, call: &Call) -> Opt
 /// Whether a call is one of the four that shall not take the last free page.
 pub fn keeps_one_back(call: &Call) -> bool {
     match call {
-        Call::Create { .. } | Call::Link { .. } | Call::Write { .. } | Call::SetSize { .. } => true,
+        Call::Create { .. }
+        | Call::CreateFolder { .. }
+        | Call::Link { .. }
+        | Call::Write { .. }
+        | Call::SetSize { .. } => true,
         Call::Unlink { .. } | Call::Rename { .. } | Call::Clean { .. } | Call::Recover => false,
     }
 }

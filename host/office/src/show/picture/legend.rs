@@ -38,12 +38,7 @@ pub(super) fn looks(drawing: &mut Drawing, longest: Option<Stretch>, mut top: us
 }
 
 /// The inodes in columns that share a width: colour, number, names, size, counts of pages.
-pub(super) fn inodes(
-    drawing: &mut Drawing,
-    inodes: &[Inode<'_>],
-    width: usize,
-    top: usize,
-) -> usize {
+pub(super) fn inodes(drawing: &mut Drawing, inodes: &[Inode], width: usize, top: usize) -> usize {
     let width = width / COLUMNS;
     let letters = (width - BEHIND_SWATCH) / LETTER - 2;
     let rows = inodes.len().div_ceil(COLUMNS);
@@ -64,14 +59,15 @@ fn swatch(drawing: &mut Drawing, look: &str, (x, y): (usize, usize), meaning: &s
 }
 
 /// An inode's line; the names are cut where it would have more than so many letters.
-fn line(inode: &Inode<'_>, letters: usize) -> String {
+fn line(inode: &Inode, letters: usize) -> String {
     let (number, log, data) = (inode.number, inode.log.len(), inode.data.len());
-    let Some(size) = inode.size else {
-        return format!("{number}: the directory, {log} log");
-    };
+    let size = inode.size;
+    if inode.is_root() {
+        return format!("{number}: the root, size {size}, {log} log");
+    }
     let rest = format!(", size {size}, {log} log, {data} data");
     let left = letters.saturating_sub(number.to_string().len() + 2 + rest.len());
-    let names = shortened(&quoted_names(&inode.names), left);
+    let names = shortened(&quoted_names(&inode.paths), left);
     format!("{number}: {names}{rest}")
 }
 
