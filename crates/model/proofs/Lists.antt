@@ -1,5 +1,5 @@
 -- Laws of the bounded tests, sums and searches of specs/Lists, and of elements of lists. By induction on the bound or the list.
-use Rattle.model.proofs.Prelude.{◌≡◌, refl, sym, ◌∙◌, ap, ◌⊎◌, inl, inr, ⊎_elim, ⊎_map, ℕ, zero, suc, ◌+◌, ◌-◌, ◌≤◌, ◌<◌, Bool, true, false, List, [], ◌∷◌, ◌++◌, map, some, arith, add-zero, add-one, length, get_or, take, drop, replicate, List·getD-append, get_or-append-add, eqb, eq-eqb, ne_eqb, eqb-true, eqb-false}
+use Rattle.model.proofs.Prelude.{◌≡◌, refl, sym, ◌∙◌, ap, ◌⊎◌, inl, inr, ⊎_elim, ⊎_map, subst, ℕ, zero, suc, ◌+◌, ◌-◌, ◌≤◌, ◌<◌, Bool, true, false, List, [], ◌∷◌, ◌++◌, map, some, arith, add-zero, add-one, length, get_or, take, drop, replicate, List·getD-append, get_or-append-add, eqb, eq-eqb, ne_eqb, eqb-true, eqb-false}
 use Rattle.model.specs.Lists.{bit, all_below, sum_below, values_from, lowest, lowest_few, all, filter, foldl, has, count, index_of, distinct, same_list}
 use Rattle.model.proofs.Tests.{by_bool, by_eq, by_lt, no, not_some, cond_and, cond_or, cond_not, cond_neither, same_test, bit_other, bit_same}
 
@@ -140,7 +140,8 @@ pub has_left : (x : ℕ) (xs ys : List ℕ) → has x xs ≡ true → has x (xs 
 unfolding has
 has_left x [] ys h = no h
 has_left x (y ∷ xs) ys h =
-    ⊎_elim (λ e. rw e (has_head y (xs ++ ys))) (λ g. has_tail x y (xs ++ ys) (has_left x xs ys g)) (has_cons x y xs h)
+    ⊎_elim (λ e. subst (λ t. has t (y ∷ (xs ++ ys)) ≡ true) (sym e) (has_head y (xs ++ ys)))
+    (λ g. has_tail x y (xs ++ ys) (has_left x xs ys g)) (has_cons x y xs h)
 
 pub has_right : (x : ℕ) (xs ys : List ℕ) → has x ys ≡ true → has x (xs ++ ys) ≡ true
 has_right x [] ys h = h

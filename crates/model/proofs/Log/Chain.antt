@@ -1,5 +1,5 @@
 -- The pages of a log as a chain: what `walk` finds is a chain, a chain is walked, and a chain hung onto another is one. By induction over the pages.
-use Rattle.model.proofs.Prelude.{◌≡◌, refl, sym, ◌∙◌, ℕ, zero, suc, ◌*◌, ◌≤◌, ◌<◌, Bool, true, false, cond, List, [], ◌∷◌, ◌++◌, append_assoc, Option, none, some, arith, length, get_or, eqb, eq-eqb, ne_eqb, eqb-true, eqb-false}
+use Rattle.model.proofs.Prelude.{◌≡◌, refl, sym, ◌∙◌, subst, ℕ, zero, suc, ◌*◌, ◌≤◌, ◌<◌, Bool, true, false, cond, List, [], ◌∷◌, ◌++◌, append_assoc, Option, none, some, arith, length, get_or, eqb, eq-eqb, ne_eqb, eqb-true, eqb-false}
 use Rattle.model.specs.Words.{Mem}
 use Rattle.model.specs.Lists.{all, has, distinct}
 use Rattle.model.specs.Layout.{footer, in_pages}
@@ -40,12 +40,16 @@ module _ (m : Mem) (P N q : ℕ) where
       go true false none i d h e = not_some ps e
       go true false (some r) i d h e = chain_step n p ps r i (eqb-false p q d) (h r refl) (cc)
 
+-- the end by another name
+pub chain_to : (m : Mem) (P N q q' : ℕ) (ps : List ℕ) → q' ≡ q → Chain m P N q ps → Chain m P N q' ps
+chain_to m P N q q' ps e c = subst (λ t. Chain m P N t ps) (sym e) c
+
 -- a chain made longer: a new chain hung on at its end
 pub chain_then : (m m' : Mem) (P N q q' : ℕ) (old ls : List ℕ) → Chain m P N q old
     → ((x : ℕ) → has x old ≡ true → (x ≡ q → ⊥) → (m' (footer x) ≡ m (footer x)) × (x ≡ q' → ⊥))
     → Chain m' P N q' (q ∷ ls) → Chain m' P N q' (old ++ ls)
 chain_then m m' P N q q' [] ls c s d = absurd c
-chain_then m m' P N q q' (p ∷ []) ls c s d = rw c.1 d
+chain_then m m' P N q q' (p ∷ []) ls c s d = subst (λ t. Chain m' P N q' (t ∷ ls)) (sym c.1) d
 chain_then m m' P N q q' (p ∷ r ∷ ps) ls c s d =
     let f = s p (has_head p (r ∷ ps)) c.1 in
     (c.0, f.1, f.0 ∙ c.2, chain_then m m' P N q q' (r ∷ ps) ls c.3 (λ x h. s x (has_tail x p (r ∷ ps) h)) d)
@@ -70,7 +74,7 @@ pub chain_words : (m : Mem) (P N q i c : ℕ) (ps ls ws : List ℕ) → Chain m 
     → entry_words (ps ++ ls) c ≡ entry_words ps i ++ ws
 unfolding entry_words
 chain_words m P N q i c [] ls ws h e = absurd h
-chain_words m P N q i c (p ∷ []) ls ws h e = rw h.1 e
+chain_words m P N q i c (p ∷ []) ls ws h e = subst (λ t. entry_words (t ∷ ls) c ≡ slots i (64 * t) ++ ws) (sym h.1) e
 chain_words m P N q i c (p ∷ r ∷ ps) ls ws h e = rw (chain_words m P N q i c (r ∷ ps) ls ws h.3 e) (sym (append_assoc (slots 7 (64 * p)) (entry_words (r ∷ ps) i) ws))
 
 pub chain_inside : (m : Mem) (P N q : ℕ) (ps : List ℕ) → Chain m P N q ps → all (in_pages P N) ps ≡ true

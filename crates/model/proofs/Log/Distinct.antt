@@ -1,5 +1,5 @@
 -- A log has no page twice: from a page on a chain goes only one way, so a page that stood twice would have two distances from the end.
-use Rattle.model.proofs.Prelude.{◌≡◌, refl, sym, ◌∙◌, ap, ⊎_elim, ℕ, suc, ◌+◌, ◌/◌, ◌≤◌, ◌<◌, true, false, List, [], ◌∷◌, ◌++◌, some, arith, length, ltb-true}
+use Rattle.model.proofs.Prelude.{◌≡◌, refl, sym, ◌∙◌, ap, subst, ⊎_elim, ℕ, suc, ◌+◌, ◌/◌, ◌≤◌, ◌<◌, true, false, List, [], ◌∷◌, ◌++◌, some, arith, length, ltb-true}
 use Rattle.model.specs.Words.{Mem}
 use Rattle.model.specs.Lists.{all, has, distinct}
 use Rattle.model.specs.Layout.{tail_word, in_pages}
@@ -15,7 +15,7 @@ module _ (m : Mem) (P N q : ℕ) where
   same_way p [] (r ∷ rs) c d = absurd (d.1 c.1)
   same_way p (x ∷ ps) [] c d = absurd (c.1 d.1)
   same_way p (x ∷ ps) (r ∷ rs) c d =
-      let e : r ≡ x = sym d.2 ∙ c.2 in ap suc (same_way x ps rs c.3 (rw e at d.3))
+      let e : r ≡ x = sym d.2 ∙ c.2 in ap suc (same_way x ps rs c.3 (subst (λ t. Chain m P N q (t ∷ rs)) e d.3))
 
   -- the chain from page x on
   way_from : (x p : ℕ) (ps : List ℕ) → Chain m P N q (p ∷ ps) → has x (p ∷ ps) ≡ true → (rs : List ℕ) × Chain m P N q (x ∷ rs) × (length rs ≤ length ps)

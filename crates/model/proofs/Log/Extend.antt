@@ -10,7 +10,7 @@ use Rattle.model.specs.Log.{tail_ok, pages_of, log_pages, pages, tail_slots, slo
 use Rattle.model.specs.Calls.{lay_entries, tail_after, pages_for, tail_pages}
 use Rattle.model.proofs.Tests.{by_eq, no, ands}
 use Rattle.model.proofs.Lists.{all_below_at, all_has, has_get_d, has_cons, apart, no_length}
-use Rattle.model.proofs.Log.Chain.{Chain, chain_then, linked_chain, chain_last, chain_words}
+use Rattle.model.proofs.Log.Chain.{Chain, chain_to, chain_then, linked_chain, chain_last, chain_words}
 use Rattle.model.proofs.Log.Slots.{slot_word, placed, placed_split, words_placed, lay_link, lay_slot, first_page}
 use Rattle.model.proofs.Log.Decode.{decode, entry_decode}
 use Rattle.model.proofs.Log.Distinct.{log_distinct, log_inside, few_pages}
@@ -108,7 +108,7 @@ fresh_log_lem {m} {P} {N} {k} {ps = p ∷ ps} {es} f =
     } in
     let b = tail_laid laid (m (tail_word k)) f.tail in
     let room = few_pages P N [] (p ∷ ps) refl f.inside refl f.apart_ps (λ x h. no h) in
-    let r = chain_log m P N k p ps (rw b.1 (chain_laid laid)) b.0 room f.head in
+    let r = chain_log m P N k p ps (chain_to m P N _ _ (p ∷ ps) b.1 (chain_laid laid)) b.0 room f.head in
     (r.0, r.1 ∙ rw (words_placed p ps (tail_slots m k) b.3, b.2, zero-add (length es)) (entries_laid laid))
 
 -- A log continued.
@@ -178,7 +178,7 @@ module _ (u u' : Mem) (P N k : ℕ) (ls : List ℕ) (es : List (List ℕ)) where
       let chain = chain_then u u' P N q q' (p ∷ os) ls c.0 (λ x h g. (footers x h g, far x h g)) (chain_laid laid) in
       let once = (log_distinct u P N k (p ∷ os) f.was).0 in
       let room = few_pages P N (p ∷ os) ls (log_inside u P N k (p ∷ os) f.was) f.inside once f.apart_ls f.new in
-      let r = chain_log u' P N k p (os ++ ls) (rw b.1 chain) b.0 room ((rw (ne_eqb t 0 z) at a.head) ∙ sym c.1) in
+      let r = chain_log u' P N k p (os ++ ls) (chain_to u' P N _ _ (p ∷ (os ++ ls)) b.1 chain) b.0 room ((rw (ne_eqb t 0 z) at a.head) ∙ sym c.1) in
       let v : entry_words (q ∷ ls) (tail_slots u' k) ≡ slots i (64 * q) ++ placed (q ∷ ls) i (length es) =
       words_placed q ls (tail_slots u' k) b.3 ∙ rw (b.2, placed_split (q ∷ ls) 0 i (length es), first_page q ls i s.2, zero-add i) in (
         r.0,

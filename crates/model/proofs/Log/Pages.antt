@@ -7,7 +7,7 @@ use Rattle.model.specs.Entry.{Entry, entry_at}
 use Rattle.model.specs.Log.{tail_ok, pages_of, log_pages, pages, tail_slots, slots, entry_words, entries}
 use Rattle.model.proofs.Tests.{by_eq, no, cond_some}
 use Rattle.model.proofs.Lists.{has_head, has_tail, has_cons, has_append}
-use Rattle.model.proofs.Log.Chain.{Chain, chain_walk, walk_chain, chain_then, chain_last}
+use Rattle.model.proofs.Log.Chain.{Chain, chain_to, chain_walk, walk_chain, chain_then, chain_last}
 use Rattle.model.proofs.Log.Decode.{entry_same}
 
 -- the log of inode k has the pages ps and the entries xs
@@ -97,7 +97,7 @@ module _ (m m' : Mem) (P N k : ℕ) (t : m' (tail_word k) ≡ m (tail_word k)) w
       let c = log_chain m P N k (p ∷ ps) e z in
       let d = chain_last m P N q (p ∷ ps) c.0 in
       let l = chain_then m m' P N q q (p ∷ ps) [] c.0 (λ x g n. (live_footers m m' P N q i (p ∷ ps) c.0 s x g n, n)) (d.1, refl) in
-      let r = chain_log m' P N k p ps (rw t (subst (Chain m' P N q) (append-nil (p ∷ ps)) l)) (rw t c.3) c.2 (h ∙ sym c.1) in
+      let r = chain_log m' P N k p ps (chain_to m' P N q _ (p ∷ ps) (rw t) (subst (Chain m' P N q) (append-nil (p ∷ ps)) l)) (rw t c.3) c.2 (h ∙ sym c.1) in
       (r.0, r.1 ∙ rw (t, entries_same m m' (entry_words (p ∷ ps) i) (live_words m m' P N q i (p ∷ ps) c.0 s (omega arith)), entries, pages, e))
 
   pub log_same : (ps : List ℕ) → log_pages m P N k ≡ some ps → ((m (tail_word k) ≡ 0 → ⊥) → m' (head_word k) ≡ m (head_word k))

@@ -1,6 +1,6 @@
 -- Lists of names: what stands in a list, and in one with a name put in or taken out; where names are distinct, how long it is and how often
 -- it leads to an inode. By induction on the list.
-use Rattle.model.proofs.Prelude.{◌≡◌, refl, sym, ◌∙◌, ℕ, ◌+◌, ◌≤◌, Bool, true, false, cond, List, [], ◌∷◌, ◌++◌, map-append, arith, length, take, length-append, eqb}
+use Rattle.model.proofs.Prelude.{◌≡◌, refl, sym, ◌∙◌, subst, ℕ, ◌+◌, ◌≤◌, Bool, true, false, cond, List, [], ◌∷◌, ◌++◌, map-append, arith, length, take, length-append, eqb}
 use Rattle.model.specs.Lists.{bit, filter, foldl, count}
 use Rattle.model.specs.Entry.{Entry, write_entry, size_entry, add_entry, remove_entry, no_entry}
 use Rattle.model.specs.State.{Names, is_named, without, with_name, name_step, inode_of, inodes}
@@ -103,7 +103,9 @@ inode_of_stands [] n e = no e
 inode_of_stands (p ∷ ps) n e =
     by_bool (is_named n p)
     (λ t. rw (inode_of, t) (let b = bit_same p.1 p.1 refl in omega arith))
-    (λ t. let r = inode_of_stands ps n (rw (stands_in, t) at e) in rw (inode_of, t) (omega arith))
+    (λ t. let r = inode_of_stands ps n (rw (stands_in, t) at e) in
+    let s : inode_of (p ∷ ps) n ≡ inode_of ps n = rw (inode_of, t) in
+    subst (λ x. 1 ≤ count x (inodes (p ∷ ps))) (sym s) (omega arith))
 
 pub inode_of_without : (ns : Names) (a b : List ℕ) → (a ≡ b → ⊥) → inode_of (without a ns) b ≡ inode_of ns b
 unfolding inode_of without filter
