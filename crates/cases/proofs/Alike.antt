@@ -74,8 +74,14 @@ module _ {X Y : Type 0} (H : Holding X) (K : Holding Y) (Same : X → Y → Type
     unfolding all_hold
     runs r [] = refl
     runs {xs} {ys} r (t ∷ rs) =
-        let s = lefts r t.step (answer K ys t.step) in
-        rw (answers r t.step, a.len _ _ s, a.mem _ _ s, runs (cons s r) rs)
+        let l = answer K ys t.step in
+        let s = lefts r t.step l in
+        rw (
+          answers r t.step,
+          a.len _ _ s,
+          a.mem _ _ s,
+          runs {xs = left_by H xs t.step l ∷ xs} {ys = left_by K ys t.step l ∷ ys} (cons s r) rs,
+        )
 
     -- from the start
     pub run : (rs : List Row) → all_hold H rs [] ≡ all_hold K rs []
