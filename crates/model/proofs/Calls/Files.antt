@@ -1,6 +1,6 @@
 -- Write and set size do what they owe: their entries come to the file that POSIX says, on fresh pages, and the other inodes and the names
 -- are kept.
-use Rattle.model.proofs.Prelude.{◌≡◌, refl, sym, ◌∙◌, ℕ, ◌+◌, ◌-◌, ◌*◌, ◌/◌, ◌^◌, ◌≤◌, ◌<◌, max, true, false, not, ◌||◌, List, [], ◌∷◌, map, none, some, arith, length, get_or, length-append, length-map, List·getD-eq-default, leb, eqb, leb-false, ltb-false, eq-eqb, ne_eqb, not-false}
+use Rattle.model.proofs.Prelude.{◌≡◌, refl, sym, ◌∙◌, ℕ, ◌+◌, ◌-◌, ◌*◌, ◌/◌, ◌^◌, ◌≤◌, ◌<◌, max, true, false, not, ◌||◌, List, [], ◌∷◌, map, none, arith, length, get_or, length-append, length-map, List·getD-eq-default, leb, eqb, leb-false, ltb-false, eq-eqb, ne_eqb, not-false}
 use Rattle.model.specs.Lists.{bit, all, has, count, distinct}
 use Rattle.model.specs.Stretches.{stretches}
 use Rattle.model.specs.Words.{Mem}

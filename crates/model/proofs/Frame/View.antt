@@ -3,7 +3,7 @@ use Rattle.model.proofs.Prelude.{◌≡◌, sym, ◌∙◌, ap, fun_ext, ℕ, �
 use Rattle.model.specs.Lists.{all, or_else}
 use Rattle.model.specs.Words.{Mem}
 use Rattle.model.specs.Layout.{valid_word, is_directory, in_pages, root}
-use Rattle.model.specs.State.{Names, file_of, inodes}
+use Rattle.model.specs.State.{Names, file_of}
 use Rattle.model.specs.Accept.{is_valid, is_file, is_folder, folders_of, uses_by, uses, valid_ok, type_ok, log_ok, folder_ok, named_ok, serves_once, end_ok}
 use Rattle.model.specs.Accept.{inode_ok, view_ok}
 use Rattle.model.specs.FileMap.{map_of}

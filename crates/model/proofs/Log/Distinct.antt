@@ -1,5 +1,5 @@
 -- A log has no page twice: from a page on a chain goes only one way, so a page that stood twice would have two distances from the end.
-use Rattle.model.proofs.Prelude.{◌≡◌, refl, sym, ◌∙◌, ap, subst, ⊎_elim, ℕ, suc, ◌+◌, ◌/◌, ◌≤◌, ◌<◌, true, false, List, [], ◌∷◌, ◌++◌, some, arith, length, ltb-true}
+use Rattle.model.proofs.Prelude.{◌≡◌, refl, sym, ◌∙◌, ap, subst, ⊎_elim, ℕ, suc, ◌/◌, ◌≤◌, ◌<◌, true, false, List, [], ◌∷◌, ◌++◌, some, arith, length, ltb-true}
 use Rattle.model.specs.Words.{Mem}
 use Rattle.model.specs.Lists.{all, has, distinct}
 use Rattle.model.specs.Layout.{tail_word, in_pages}

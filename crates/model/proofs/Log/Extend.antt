@@ -178,7 +178,8 @@ module _ (u u' : Mem) (P N k : ℕ) (ls : List ℕ) (es : List (List ℕ)) where
       let chain = chain_then u u' P N q q' (p ∷ os) ls c.0 (λ x h g. (footers x h g, far x h g)) (chain_laid laid) in
       let once = (log_distinct u P N k (p ∷ os) f.was).0 in
       let room = few_pages P N (p ∷ os) ls (log_inside u P N k (p ∷ os) f.was) f.inside once f.apart_ls f.new in
-      let r = chain_log u' P N k p (os ++ ls) (chain_to u' P N _ _ (p ∷ (os ++ ls)) b.1 chain) b.0 room ((rw (ne_eqb t 0 z) at a.head) ∙ sym c.1) in
+      let to_end = chain_to u' P N _ _ (p ∷ (os ++ ls)) b.1 chain in
+      let r = chain_log u' P N k p (os ++ ls) to_end b.0 room ((rw (ne_eqb t 0 z) at a.head) ∙ sym c.1) in
       let v : entry_words (q ∷ ls) (tail_slots u' k) ≡ slots i (64 * q) ++ placed (q ∷ ls) i (length es) =
       words_placed q ls (tail_slots u' k) b.3 ∙ rw (b.2, placed_split (q ∷ ls) 0 i (length es), first_page q ls i s.2, zero-add i) in (
         r.0,

@@ -97,7 +97,8 @@ module _ (m m' : Mem) (P N k : ℕ) (t : m' (tail_word k) ≡ m (tail_word k)) w
       let c = log_chain m P N k (p ∷ ps) e z in
       let d = chain_last m P N q (p ∷ ps) c.0 in
       let l = chain_then m m' P N q q (p ∷ ps) [] c.0 (λ x g n. (live_footers m m' P N q i (p ∷ ps) c.0 s x g n, n)) (d.1, refl) in
-      let r = chain_log m' P N k p ps (chain_to m' P N q _ (p ∷ ps) (rw t) (subst (Chain m' P N q) (append-nil (p ∷ ps)) l)) (rw t c.3) c.2 (h ∙ sym c.1) in
+      let to_end = chain_to m' P N q (m' (tail_word k) / 512) (p ∷ ps) (rw t) (subst (Chain m' P N q) (append-nil (p ∷ ps)) l) in
+      let r = chain_log m' P N k p ps to_end (rw t c.3) c.2 (h ∙ sym c.1) in
       (r.0, r.1 ∙ rw (t, entries_same m m' (entry_words (p ∷ ps) i) (live_words m m' P N q i (p ∷ ps) c.0 s (omega arith)), entries, pages, e))
 
   pub log_same : (ps : List ℕ) → log_pages m P N k ≡ some ps → ((m (tail_word k) ≡ 0 → ⊥) → m' (head_word k) ≡ m (head_word k))

@@ -1,5 +1,5 @@
 -- The entries that clean writes for a file come to that file: its stretches map every page that it has, and each sets its size.
-use Rattle.model.proofs.Prelude.{◌≡◌, refl, sym, ◌∙◌, ◌⊎◌, ⊎_elim, ⊎_map, ℕ, ◌*◌, ◌≤◌, true, List, map, arith, length, length-map, leb, eq-eqb, ne_eqb}
+use Rattle.model.proofs.Prelude.{◌≡◌, refl, sym, ◌∙◌, ⊎_elim, ⊎_map, ℕ, ◌*◌, ◌≤◌, true, List, map, arith, length, length-map, leb, eq-eqb, ne_eqb}
 use Rattle.model.specs.Lists.{all, foldl}
 use Rattle.model.specs.Stretches.{Stretch, stretches}
 use Rattle.model.specs.Entry.{file_entry_ok}

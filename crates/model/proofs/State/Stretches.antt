@@ -110,7 +110,8 @@ one_stretch f (suc (suc n)) i p l h g =
     let e : f i ≡ p = rw (add-zero i, add-zero p) at (g 0 (omega arith)) in
     let r = one_stretch f (suc n) (i + 1) (p + 1) (omega arith) (omega arith)
     (λ t k. let a : i + 1 + t ≡ i + suc t = omega arith in rw a (g (suc t) (omega arith) ∙ omega arith)) in
-    rw (stretches, e, ne_eqb p 0 (omega arith), r, ahead, e, eq-eqb (i + 1) (i + 1) refl, eq-eqb (p + 1) (p + 1) refl) (ap (λ c. record { first = i; page = p; count = c } ∷ []) (omega arith))
+    rw (stretches, e, ne_eqb p 0 (omega arith), r, ahead, e, eq-eqb (i + 1) (i + 1) refl, eq-eqb (p + 1) (p + 1) refl)
+    (ap (λ c. record { first = i; page = p; count = c } ∷ []) (omega arith))
 
 -- What holds of each stretch: it has numbers among the n from i on, and stands where they stand.
 pub record Stands (f : ℕ → ℕ) (n i : ℕ) (s : Stretch) : Type 0 where
