@@ -16,6 +16,8 @@
 // and likewise volume_create_folder and volume_unlink; volume_link and volume_rename with two folders and names, each folder before its
 // name; volume_write with inode, offset and bytes; volume_set_size with inode and size; volume_clean with an inode; volume_recover.
 // find, size and read hand on to crate firmware: a static library exports the functions of its own crate alone.
+#![tactic(auto)]
+
 ghost use Rattle.std.specs.Prelude.{◌≡◌, ◌/◌, length};
 ghost use Rattle.model.specs.Public.{format_answer, format_volume, carry_answer, carry_volume, find_answer, total_answer, size_answer};
 ghost use Rattle.model.specs.Public.{read_answer, read_buffer, kth_name_answer, kth_name_buffer, free_answer, gaps_answer, gaps_words};
