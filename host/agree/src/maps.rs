@@ -43,7 +43,7 @@ pub fn after_call(call: &Call, volume: &[u8], name: &str, random: &mut Random) -
         "bytes",
         Equation {
             kind: "Option (List ℕ)",
-            left: format!("{left} .files {file}"),
+            left: format!("({left}).files {file}"),
             right: content,
         },
     );
@@ -56,7 +56,7 @@ pub fn ask_folder(sheet: &mut Sheet, left: &str, map: &FileMap, folder: u64) {
     let names = names.map(|names| format!("some {}", term::names(names)));
     let equation = Equation {
         kind: "Option (List (List ℕ × ℕ))",
-        left: format!("{left} .folders {folder}"),
+        left: format!("({left}).folders {folder}"),
         right: names.unwrap_or("none".to_string()),
     };
     sheet.ask_of(&format!("folder-{folder}"), equation);

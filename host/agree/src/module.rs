@@ -26,35 +26,35 @@ pub fn definitions(specs: &str) -> std::io::Result<Vec<(String, Vec<String>)>> {
 }
 
 /// Definitions of the module itself. The values of a long write's data take long to compute, and are not computed where
-/// `someValues` leaves them out.
+/// `some_values` leaves them out.
 const OWN: &str = "
 -- a store list with 0 for the values in the pages ps, but for those in the places ks of a page
-someValues : List ℕ → List ℕ → List ℕ → List ℕ
-someValues ps ks [] = []
-someValues ps ks (i ∷ []) = i ∷ []
-someValues ps ks (i ∷ x ∷ r) =
-    i ∷ cond (not (has (i / 64) ps) || has (i % 64) ks) x 0 ∷ someValues ps ks r
+some_values : List ℕ → List ℕ → List ℕ → List ℕ
+some_values ps ks [] = []
+some_values ps ks (i ∷ []) = i ∷ []
+some_values ps ks (i ∷ x ∷ r) =
+    i ∷ cond (not (has (i / 64) ps) || has (i % 64) ks) x 0 ∷ some_values ps ks r
 ";
 
 /// The module's first lines.
 pub fn header(definitions: &[(String, Vec<String>)]) -> String {
     let mut text = String::from(
-        "use Prim.Native.Nat.{ℕ, _/_, _%_}\n\
-         use mathlib.Core.Path.{_≡_, refl}\n\
-         use mathlib.Core.Bool.{true, false, cond, _||_, not}\n\
-         use mathlib.Core.List.{List, [], _∷_, _++_}\n\
+        "use Prim.Native.Nat.{ℕ, ◌/◌, ◌%◌}\n\
+         use mathlib.Core.Path.{◌≡◌, refl}\n\
+         use mathlib.Core.Bool.{true, false, cond, ◌||◌, not}\n\
+         use mathlib.Core.List.{List, [], ◌∷◌, ◌++◌}\n\
          use mathlib.Core.Option.{Option, none, some}\n\
-         use lib.ListN.{getD, replicate}\n\
-         use Rattle·model.specs.Words.{Mem}\n\
-         use Rattle·model.specs.Answer.{Answer, refused, done, Nothing, mapAnswer}\n\
-         use Rattle·model.specs.Power.{Power, held, cut}\n\
-         use Rattle·model.specs.FileMap.{FileMap}\n\
-         use Rattle·model.specs.FileMap.{create, createFolder, link, unlink, rename, write, setSize}\n\
-         use Rattle·model.specs.FileMap.{clean, recover}\n",
+         use lib.ListN.{get_or, replicate}\n\
+         use Rattle.model.specs.Words.{Mem}\n\
+         use Rattle.model.specs.Answer.{Answer, refused, done, Nothing, map_answer}\n\
+         use Rattle.model.specs.Power.{Power, held, cut}\n\
+         use Rattle.model.specs.FileMap.{FileMap}\n\
+         use Rattle.model.specs.FileMap.{create, create_folder, link, unlink, rename, write, set_size}\n\
+         use Rattle.model.specs.FileMap.{clean, recover}\n",
     );
     for (module, names) in definitions {
         let names = names.join(", ");
-        let _ = writeln!(text, "use Rattle·model.specs.{module}.{{{names}}}");
+        let _ = writeln!(text, "use Rattle.model.specs.{module}.{{{names}}}");
     }
     text + OWN
 }
@@ -65,5 +65,5 @@ pub fn unfolding(definitions: &[(String, Vec<String>)]) -> String {
         .iter()
         .flat_map(|(_, names)| names.iter().map(String::as_str))
         .collect();
-    format!("unfolding {} someValues", names.join(" "))
+    format!("unfolding {} some_values", names.join(" "))
 }

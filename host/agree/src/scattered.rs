@@ -99,7 +99,7 @@ impl Write {
         if let Some(Taken { data, .. }) = self.taken().filter(|_| self.length > LONGEST) {
             let places = self.places();
             let [pages, few] = [&data[..], &places].map(term::numbers);
-            left = format!("map_answer (someValues {pages} {few}) ({left})");
+            left = format!("map_answer (some_values {pages} {few}) ({left})");
             list = list.map(|list| some_values(&data, &places, &list));
         }
         sheet.ask(Equation {

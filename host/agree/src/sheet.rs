@@ -75,7 +75,7 @@ impl Sheet {
             opened += &format!(" {name}");
         }
         for (name, Equation { kind, left, right }) in &self.equations {
-            text += &format!("\n{name} : _≡_ {{A = {kind}}} ({left}) ({right})\n");
+            text += &format!("\n{name} : ◌≡◌ {{A = {kind}}} ({left}) ({right})\n");
             text += &format!("{opened}\n{name} = refl\n");
         }
         text
