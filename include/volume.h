@@ -2,7 +2,7 @@
  * The file store's calls for the handheld's firmware: find a name in a folder, ask a file's size, read its
  * bytes.
  *
- * Link libfirmware.a (`rt staticlib firmware` makes target/staticlib/libfirmware.a). It needs the memory
+ * Link libfirmware.a (`host/archives firmware` makes target/staticlib/libfirmware.a). It needs the memory
  * functions of the C library, memset and the like, and nothing else.
  *
  * A volume is the bytes of the persistent memory, 16 to 4,096 pages of 512 bytes. The calls take any bytes

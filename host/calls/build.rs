@@ -1,4 +1,4 @@
-//! Links libhost_calls.a, which `rt staticlib host_calls` makes.
+//! Links libhost_calls.a, which `host/archives host_calls` makes.
 //!
 //! It is taken from the folder that CALLS_LIB_DIR names, else from target/staticlib of the project.
 
@@ -17,7 +17,7 @@ fn main() {
     println!("cargo:rerun-if-changed={}", archive.display());
     if !archive.is_file() {
         eprintln!("calls: {} is missing.", archive.display());
-        eprintln!("Run `rt staticlib host_calls` in the project's folder to make it,");
+        eprintln!("Run `host/archives host_calls` in the project's folder to make it,");
         eprintln!("or set CALLS_LIB_DIR to the folder that has libhost_calls.a.");
         exit(1);
     }

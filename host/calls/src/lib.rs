@@ -1,6 +1,6 @@
 //! The compiled calls of the file store, for Rust programs.
 //!
-//! The calls are proved and compiled in `crates/host_calls`; `rt staticlib host_calls` makes the
+//! The calls are proved and compiled in `crates/host_calls`; `host/archives` makes the
 //! archive that this crate links (see `build.rs`). Each call here hands its slices and numbers on and
 //! turns the number that comes back into an [`Answer`]; it checks nothing itself.
 //!
