@@ -1,4 +1,6 @@
 // Words and bytes of a lent slice. "A word is 8 bytes, little-endian, aligned; word w is bytes 8w to 8w+7."
+#![tactic(auto)]
+
 ghost use Rattle.std.specs.Prelude.{◌≡◌, ◌+◌, ◌*◌, ◌/◌, ◌%◌, ◌^◌, ◌≤◌, ◌<◌, length, get_or, set};
 ghost use Rattle.model.specs.Words.{le_from, word, put_le, put_word, byte_at};
 
