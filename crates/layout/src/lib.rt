@@ -1,4 +1,6 @@
 // Where things stand in a volume and how much there may be of them: document 01, "Volume". Nothing here looks at more than words 0 and 1.
+#![tactic(auto)]
+
 ghost use Rattle.std.specs.Prelude.{◌≡◌, ◌^◌, ◌≤◌, ◌<◌, max, length};
 ghost use Rattle.model.specs.Words.{word};
 ghost use Rattle.model.specs.Layout.{valid_word, head_word, tail_word, type_word, footer};
