@@ -3,7 +3,7 @@ ghost use Rattle.std.specs.Prelude.{◌≡◌, ◌≤◌};
 ghost use Rattle.answer.specs.Meaning.{meaning, refusal_of, code_of};
 
 // What a call answers. specs/Meaning.antt gives document 01's number and value of each case.
-#[derive(Drop)]
+#[derive(Clone, Copy)]
 pub enum Answer {
     // The call is done, and has no number to answer: format and carry out.
     Done,

@@ -22,7 +22,7 @@ use layout::Sizes;
 // are file pages from page `file` on, of a file that has `size` bytes then. Together with the tails the valid word of inode `other`, if
 // that is not 0, becomes `valid`: 1 makes an inode with an empty log and type `kind`, 0 lets it go. The last free page is not taken where
 // it `keeps` that page.
-#[derive(Drop)]
+#[derive(Clone, Copy)]
 pub struct Append {
     pub log: usize,
     pub file: u64,

@@ -17,14 +17,14 @@ use layout::{MOST_NAMES, Sizes};
 use names::FolderNames;
 
 // The folders of a call with two names: those of the old name and of the new.
-#[derive(Drop)]
+#[derive(Clone, Copy)]
 pub struct TwoFolders {
     pub old: usize,
     pub new: usize,
 }
 
 // Where two names lead: an inode, or 0 where a name does not stand in its folder; and how many names the new one's folder has.
-#[derive(Drop)]
+#[derive(Clone, Copy)]
 pub struct Leads {
     pub old: usize,
     pub new: usize,

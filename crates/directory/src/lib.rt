@@ -67,7 +67,7 @@ fn index_entry(v: &[u8], e: Entry, place: usize, index: &mut [u16]) -> usize
 }
 
 // What an index of a log's names comes to.
-#[derive(Drop)]
+#[derive(Clone, Copy)]
 enum Indexed {
     // every entry is one that a directory's log may hold, and is noted
     Whole,
@@ -132,7 +132,7 @@ fn stands(v: &[u8], e: Entry, place: usize, index: &[u16]) -> bool
 
 // The names of a directory: whether they are as an accepted volume has them and, if so, how many; they are then the first so many
 // places of the table.
-#[derive(Drop)]
+#[derive(Clone, Copy)]
 pub struct Named {
     pub good: bool,
     pub count: usize,
@@ -184,7 +184,7 @@ fn list_standing(v: &[u8], log: Log, index: &[u16], places: &mut [u16; 224]) -> 
 }
 
 // What a fold over a log's names with an index comes to.
-#[derive(Drop)]
+#[derive(Clone, Copy)]
 enum Fold {
     // the names
     Done(Named),

@@ -17,7 +17,7 @@ ghost use Rattle.files.specs.State.{file_from, filled, size_in, Applied, Folds, 
 use inode_log::{Cursor, Entry, Log};
 
 // What a log comes to: whether a file may have it and, if so, the file's size; its pages are then in the lent table.
-#[derive(Drop)]
+#[derive(Clone, Copy)]
 pub struct Folded {
     pub good: bool,
     pub size: u64,

@@ -11,7 +11,7 @@ use layout::Sizes;
 
 // A gap: the first page of a longest stretch of free pages, and its length. A gap of no pages stands before the first one and behind
 // the last one.
-#[derive(Drop)]
+#[derive(Clone, Copy)]
 pub struct Gap {
     pub first: u64,
     pub length: u64,

@@ -15,13 +15,13 @@ ghost use Rattle.inode_log.specs.Ready.{Ready};
 ghost use Rattle.inode_log.specs.Found.{LogOf};
 
 // Where a reader of a log stands, as a place: an entry, or the footer after a page's last entry. A place is a word index divided by 8.
-#[derive(Drop)]
+#[derive(Clone, Copy)]
 pub struct Cursor {
     pub place: u16,
 }
 
 // A name as an entry holds it: its length, and its bytes as four words, filled up with zeros.
-#[derive(Drop)]
+#[derive(Clone, Copy)]
 pub struct Name {
     pub len: u64,
     pub first: u64,
@@ -31,7 +31,7 @@ pub struct Name {
 }
 
 // An entry, each kind with its own fields. specs/Entries.antt gives the model's entry of each case (`meant`).
-#[derive(Drop)]
+#[derive(Clone, Copy)]
 pub enum Entry {
     // count data pages from page on become the file pages from file on, and size the file's size
     Write {
@@ -54,14 +54,14 @@ pub enum Entry {
 }
 
 // What a step hands back: the entry, and the cursor after it.
-#[derive(Drop)]
+#[derive(Clone, Copy)]
 pub struct Step {
     pub entry: Entry,
     pub next: Cursor,
 }
 
 // The log of an inode: the places at which it starts and ends, and the volume's page count. It has at most 7 entries for each page.
-#[derive(Drop)]
+#[derive(Clone, Copy)]
 pub struct Log {
     pub start: u16,
     pub end: u16,

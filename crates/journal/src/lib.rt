@@ -8,7 +8,7 @@ ghost use Rattle.model.specs.Journal.{is_open, view, target_ok, journal_ok};
 ghost use Rattle.journal.specs.Targets.{targets};
 
 // A place in the journal. "A position is below 16 and the one after 15 is 0."
-#[derive(Drop)]
+#[derive(Clone, Copy)]
 pub struct Position {
     pub at: u64,
 }

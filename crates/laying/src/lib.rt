@@ -36,7 +36,7 @@ pub fn pages_needed(tail: usize, n: usize) -> usize
 
 // How far a log is laid: the first group ends at `end` and the log at `tail`, which is 0 where it has no page yet; `head` is the first
 // page of a log that had none, and fresh pages are sought from page `from` on.
-#[derive(Drop)]
+#[derive(Clone, Copy)]
 pub struct Laid {
     pub end: usize,
     pub head: usize,

@@ -72,7 +72,7 @@ pub const LIST_WORDS: usize = 4096;
 pub const FENCE: u64 = 18446744073709551615;
 
 // The sizes of a volume.
-#[derive(Drop)]
+#[derive(Clone, Copy)]
 pub struct Sizes {
     pub pages: usize,
     pub inodes: usize,

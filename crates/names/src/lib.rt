@@ -106,7 +106,7 @@ pub fn note_names(
 }
 
 // Which folder's names stand in a table of places, and how many they are.
-#[derive(Drop)]
+#[derive(Clone, Copy)]
 pub struct FolderNames {
     pub folder: usize,
     pub count: usize,

@@ -14,7 +14,7 @@ use directory::Named;
 use layout::Sizes;
 
 // What was found of a volume: whether it is accepted and, if so, how many names inode 0 has.
-#[derive(Drop)]
+#[derive(Clone, Copy)]
 pub struct Found {
     pub accepted: bool,
     pub names: usize,
