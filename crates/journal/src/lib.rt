@@ -1,5 +1,7 @@
 // The rollback journal of a volume: its positions, its open entries, the view of a word, and whether it is as an
 // accepted volume has it. v is the volume. "Word 8 is the journal's dequeue position, word 9 its enqueue position."
+#![tactic(auto)]
+
 ghost use Rattle.std.specs.Prelude.{◌≡◌, ◌+◌, ◌*◌, ◌≤◌, ◌<◌, length};
 ghost use Rattle.model.specs.Lists.{all, has, distinct};
 ghost use Rattle.model.specs.Words.{word};
