@@ -1,5 +1,7 @@
 // The header of a volume: whether a slice is a volume at all. "Word 0 is P, word 1 is N, word 2 is 1."
 // A volume may still be damaged: the crates above judge the rest.
+#![tactic(auto)]
+
 ghost use Rattle.std.specs.Prelude.{◌≡◌, ◌&&◌, ◌*◌, eqb, length};
 ghost use Rattle.model.specs.Words.{word};
 ghost use Rattle.model.specs.Layout.{sizes_ok};

@@ -1,0 +1,13 @@
+-- A slice without a whole header is too short for a volume; of any other the three words decide.
+use Rattle.model.proofs.Prelude.{rules}
+use Rattle.header.proofs.Cases.{too_short, sizes_wrong, kind_decides}
+use Rattle.header.proofs.is_volume.Goals as goal
+
+pub returns-then-v-lt-HEADER_BYTES : goal.returns-then-v-lt-HEADER_BYTES
+returns-then-v-lt-HEADER_BYTES c = search (rules, too_short)
+
+pub returns-then-not-sizes_fit : goal.returns-then-not-sizes_fit
+returns-then-not-sizes_fit c = search (rules, sizes_wrong)
+
+pub returns : goal.returns
+returns c = search (rules, kind_decides)
