@@ -1,5 +1,7 @@
 // Marks of pages in lent memory, a byte for each page: 0 where a page is not marked. A judge marks every page that
 // serves; a page that it finds marked serves twice.
+#![tactic(auto)]
+
 ghost use Rattle.std.specs.Prelude.{◌≡◌, true, ◌≤◌, ◌<◌, eqb, set, get_or};
 ghost use Rattle.model.specs.Lists.{all};
 ghost use Rattle.model.specs.Layout.{in_pages};
