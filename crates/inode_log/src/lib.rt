@@ -2,6 +2,8 @@
 // volume, read as it stands: a log's head and tail come from the view, and its pages lie past every word that the view puts back
 // (proofs/Viewed.antt). Page numbers, places and steps are 16-bit numbers, since a volume has at most 4,096 pages; a number that the
 // volume holds is judged as the 64-bit number that it is before it is narrowed.
+#![tactic(auto)]
+
 ghost use Rattle.std.specs.Prelude.{◌≡◌, true, ◌+◌, ◌*◌, ◌≤◌, ◌<◌, length};
 ghost use Rattle.model.specs.Lists.{is_some};
 ghost use Rattle.model.specs.Words.{word};
