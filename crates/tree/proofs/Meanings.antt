@@ -1,5 +1,5 @@
 -- The table and the tree of folders: where the parents are the same, so are the ways up.
-use Rattle.model.proofs.Prelude.{ℕ, zero, suc, ◌≤◌, ◌<◌, ◌≡◌, refl, Bool, true, false, cond, List, arith, eqb, ltb, ne_eqb, le-ltb}
+use Rattle.model.proofs.Prelude.{ℕ, zero, suc, ◌≤◌, ◌<◌, ◌≡◌, refl, Bool, true, false, cond, List, arith, eqb, ne_eqb, le-ltb}
 use Rattle.model.specs.Tree.{Folders, name_count, parent_of, above, is_reached, is_beneath}
 use Rattle.model.proofs.Tests.{by_eq}
 use Rattle.model.proofs.Tree.{Reaches, top, up, parent_below}

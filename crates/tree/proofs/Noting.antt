@@ -1,5 +1,5 @@
 -- Names that are noted one after the other: what the table shows of the inodes, and why a name cannot be noted.
-use Rattle.model.proofs.Prelude.{ℕ, zero, suc, ◌+◌, ◌*◌, ◌-◌, ◌≤◌, ◌<◌, ◌≡◌, refl, sym, ◌∙◌, ◌⊎◌, inl, inr, ⊎_elim, Bool, true, false, cond, not, List, [], ◌∷◌, Option, none, some, arith, zero-add, set, length-set, get_or-set_same, get_or-set_other, eqb, ltb, eq-eqb, ne_eqb, lt-ltb, le-ltb}
+use Rattle.model.proofs.Prelude.{ℕ, zero, suc, ◌+◌, ◌*◌, ◌≤◌, ◌<◌, ◌≡◌, refl, sym, ◌∙◌, ◌⊎◌, inl, inr, ⊎_elim, Bool, true, false, cond, List, [], ◌∷◌, Option, none, some, arith, zero-add, length-set, get_or-set_same, get_or-set_other, eqb, eq-eqb, ne_eqb, lt-ltb, le-ltb}
 use Rattle.model.specs.Lists.{bit, sum_below, all, lowest, has, count, or_else}
 use Rattle.model.specs.State.{inodes}
 use Rattle.model.specs.Tree.{Folders, name_count, parent_of}

@@ -1,5 +1,5 @@
 -- What is kept while inodes are settled: t₀ is the table at the start, of N inodes, and t the table now.
-use Rattle.model.proofs.Prelude.{ℕ, zero, suc, ◌+◌, ◌*◌, ◌-◌, ◌/◌, ◌%◌, ◌≤◌, ◌<◌, ◌≡◌, refl, sym, ◌∙◌, ap, Bool, true, false, not, List, arith, ◌⊎◌, inl, inr, ⊎_elim, eqb, length, get_or, set, length-set, get_or-set_same, get_or-set_other, eq-eqb, ne_eqb, eqb-true, not-true, not-false}
+use Rattle.model.proofs.Prelude.{ℕ, zero, suc, ◌+◌, ◌*◌, ◌-◌, ◌/◌, ◌%◌, ◌≤◌, ◌<◌, ◌≡◌, refl, sym, ◌∙◌, ap, Bool, true, false, not, List, arith, ◌⊎◌, inl, inr, ⊎_elim, length, get_or, length-set, get_or-set_same, get_or-set_other, eq-eqb, ne_eqb, eqb-true, not-true, not-false}
 use Rattle.model.proofs.Tests.{by_eq, no, clash}
 use Rattle.tree.specs.Table.{state_in, parent_in, with_state, above_in, Climbs, top, up, Unsettled, SettlesAll}
 use Rattle.tree.specs.Way.{meets_in, way_marked, passes, passed}

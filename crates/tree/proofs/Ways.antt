@@ -1,7 +1,6 @@
 -- The cases of the functions that climb: t is the table, s and p are what `state_of` and `parent_of` answered of inode k, and z is what the
 -- whole climb comes to.
 use Rattle.model.proofs.Prelude.{ℕ, zero, suc, ◌-◌, ◌≤◌, ◌<◌, ◌≡◌, sym, ◌∙◌, Bool, true, false, not, List, arith, sub-one, eqb, eq-eqb, ne_eqb, not-true, not-false}
-use Rattle.model.proofs.Tests.{no}
 use Rattle.tree.specs.Table.{state_in, parent_in, with_state, above_in}
 use Rattle.tree.specs.Way.{meets_in, way_marked, passes, passed}
 

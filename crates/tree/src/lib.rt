@@ -1,6 +1,8 @@
 // The tree of folders, as a table with an element for each inode: its state times 256, and its parent. The state says what the inode is and
 // how many names were noted of it; the parent is the lowest folder that has one, 0 where none has. The folders are noted from the highest
 // inode to inode 0, so that the parent is the folder noted last. Nothing here looks at the volume.
+#![tactic(auto)]
+
 ghost use Rattle.std.specs.Prelude.{◌≡◌, true, cond, ◌≤◌, ◌<◌, eqb};
 ghost use Rattle.tree.specs.Table.{state_in, parent_in, with_state, after_name, may_name, noted, above_in, Unsettled, SettlesAll};
 ghost use Rattle.tree.specs.Way.{meets_in, way_marked, passes, passed};
