@@ -1,6 +1,8 @@
 // An index of the names that a directory's log adds: a table of slots with open addressing. A slot holds the place of the last entry
 // so far that has a name, or 0 where it is empty; a place is an entry's first word divided by 8. No slot is ever emptied, so that a
 // look-up ends at the slot of its name, or at an empty one. v is the volume, in which the names stand.
+#![tactic(auto)]
+
 ghost use Rattle.std.specs.Prelude.{◌≡◌, ◌+◌, ◌*◌, ◌^◌, ◌≤◌, ◌<◌, length, get_or};
 ghost use Rattle.model.specs.Words.{word};
 ghost use Rattle.inode_log.specs.Entries.{name_in};
