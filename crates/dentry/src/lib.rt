@@ -1,4 +1,6 @@
 // Entries of a directory's log, judged: each from what it says and the volume's sizes alone.
+#![tactic(auto)]
+
 ghost use Rattle.std.specs.Prelude.{◌≡◌};
 ghost use Rattle.model.specs.Entry.{add_entry, field_ok, name_entry_ok};
 ghost use Rattle.inode_log.specs.Entries.{field_of, meant};
