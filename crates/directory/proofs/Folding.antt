@@ -1,6 +1,6 @@
 -- The two passes together: where the index holds the whole log, the places listed are those of the log's names; a log that adds more
 -- different names than the large index is to hold leaves more than 224 of them standing.
-use Rattle.model.proofs.Prelude.{ℕ, ◌+◌, ◌*◌, ◌-◌, ◌^◌, ◌≤◌, ◌<◌, ◌≡◌, sym, ◌∙◌, ap, true, false, ◌&&◌, List, [], map, arith, leb, length, get_or, replicate, length-map, length-replicate, le-leb, lt-leb, leb-true}
+use Rattle.model.proofs.Prelude.{ℕ, ◌+◌, ◌*◌, ◌^◌, ◌≤◌, ◌<◌, ◌≡◌, sym, ◌∙◌, ap, true, false, ◌&&◌, List, [], map, arith, leb, length, get_or, replicate, length-map, length-replicate, le-leb, lt-leb, leb-true}
 use Rattle.model.specs.Lists.{all, foldl, is_some}
 use Rattle.model.specs.Words.{Mem, word}
 use Rattle.model.specs.Layout.{is_directory, most_names}

@@ -1,6 +1,6 @@
 -- What an index tells of a log's names. Entry by entry: the adds that stand are those that stood, but for one of the entry's name, and the
 -- entry itself if it adds; and an index has at most half as many names as there are entries and names that stand.
-use Rattle.model.proofs.Prelude.{ℕ, ◌+◌, ◌*◌, ◌-◌, ◌/◌, ◌%◌, ◌^◌, ◌≤◌, ◌<◌, ◌≡◌, refl, sym, ◌∙◌, ap, subst, ⊎_elim, Bool, true, false, not, cond, ◌&&◌, ◌||◌, List, [], ◌∷◌, ◌++◌, map, map-append, append-nil, append_assoc, arith, eqb, leb, length, take, replicate, length-replicate, length-append, length-map, eq-eqb, ne_eqb, eqb-true, le-leb, leb-true}
+use Rattle.model.proofs.Prelude.{ℕ, ◌+◌, ◌*◌, ◌/◌, ◌%◌, ◌^◌, ◌≤◌, ◌<◌, ◌≡◌, refl, sym, ◌∙◌, ap, subst, ⊎_elim, Bool, true, false, not, cond, ◌&&◌, ◌||◌, List, [], ◌∷◌, ◌++◌, map, map-append, append-nil, append_assoc, arith, eqb, leb, length, take, replicate, length-replicate, length-append, length-map, eq-eqb, ne_eqb, eqb-true, le-leb, leb-true}
 use Rattle.model.specs.Lists.{bit, all, filter, foldl, has, distinct, same_list}
 use Rattle.model.specs.Words.{Mem}
 use Rattle.model.specs.Entry.{Entry as Full, write_entry, size_entry, add_entry, remove_entry, no_entry, entry_at, name_field, name_entry_ok}

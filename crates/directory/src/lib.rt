@@ -1,6 +1,8 @@
 // The names that a directory's log leaves standing. v is the volume, whose log pages are read as they stand; a name is known by its
 // place: the first word of its add entry divided by 8. A log is read twice: an index (crate index) gets the last entry of each name,
 // and then each add that is the last entry of its name stands.
+#![tactic(auto)]
+
 ghost use Rattle.std.specs.Prelude.{◌≡◌, true, false, ◌&&◌, ◌+◌, ◌*◌, ◌-◌, ◌≤◌, ◌<◌, leb, length, get_or, set, replicate};
 ghost use Rattle.model.specs.Lists.{all, is_some};
 ghost use Rattle.model.specs.Words.{word};
