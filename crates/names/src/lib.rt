@@ -1,6 +1,8 @@
 // The names of folders and the inodes that they lead to: what the judge notes of them, the lowest inode that a new name may have, and the
 // table of one folder's names turned to another. v is the
 // volume; a name is known by its place (crate directory).
+#![tactic(auto)]
+
 ghost use Rattle.std.specs.Prelude.{◌≡◌, true, not, ◌+◌, ◌-◌, ◌*◌, ◌≤◌, ◌<◌, length};
 ghost use Rattle.model.specs.Lists.{all, lowest, or_else};
 ghost use Rattle.model.specs.Words.{word};

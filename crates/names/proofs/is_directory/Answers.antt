@@ -1,0 +1,6 @@
+-- Inode 0 is a folder; of another the type word decides.
+use Rattle.names.proofs.Inodes.{directory_is}
+use Rattle.names.proofs.is_directory.Goals as goal
+
+pub returns : goal.returns
+returns c = search directory_is
