@@ -1,6 +1,8 @@
 // Names looked up: whether bytes are a name, the inode that a name leads to, and a name laid into a lent buffer. v is the volume.
 // The names that stand are known by their places, which the crate `directory` puts into a table: a place is the first word of a
 // name's add entry divided by 8.
+#![tactic(auto)]
+
 ghost use Rattle.std.specs.Prelude.{◌≡◌, true, ◌++◌, ◌+◌, ◌*◌, ◌≤◌, length, take, drop};
 ghost use Rattle.model.specs.Lists.{all, same_list, values_from};
 ghost use Rattle.model.specs.Words.{word, byte_at};
