@@ -1,6 +1,5 @@
 -- What checks came to: a refusal, which every call that asks them answers too, or a number, and then what comes after them decides.
 use Rattle.model.proofs.Prelude.{ℕ, ◌≡◌, refl, sym, ◌∙◌, ap, Bool, false, cond, [], ◌∷◌, ◌++◌, Option, some, arith}
-use types.Run.{miss}
 use Rattle.model.specs.Answer as model
 use Rattle.model.specs.Answer.{refused, done, Checks, first_refusal, map_answer}
 use Rattle.model.proofs.Tests.{by_bool}
@@ -9,7 +8,7 @@ use Rattle.answer.specs.declared.Answer.{Answer}
 use Rattle.answer.specs.declared.Answer.TheVariants.{Done, Number, ShortMemory, NoVolume, Damaged, JournalOpen, BadName, NotThere}
 use Rattle.answer.specs.declared.Answer.TheVariants.{Taken, LongWrite, PastTheEnd, NoInode, DirectoryFull, NoSpace, BadList}
 use Rattle.answer.specs.declared.Answer.TheVariants.{TooManyGaps, LastPage, WrongType, NotEmpty, IntoItself}
-use Rattle.answer.proofs.Codes.{others, NoNumber}
+use Rattle.answer.proofs.Codes.{NoNumber}
 
 -- a refusal is no done answer
 pub clash : {A X : Type 0} (k : ℕ) (a : A) → refused k ≡ done a → X
@@ -18,7 +17,7 @@ clash k a e = let q : ◌≡◌ {A = ℕ} 0 1 = cc in absurd (omega arith)
 -- an answer that means a number is one
 pub no_number : {X : Type 0} (r : Answer) (x : ℕ) → NoNumber r → meaning r ≡ done (some x) → X
 no_number Done x o e = let q : ◌≡◌ {A = ℕ} 0 1 = cc in absurd (omega arith)
-no_number (Number y) x o e = absurd (miss others 1 (tt {0}) o)
+no_number (Number y) x o e = absurd (o y refl)
 no_number ShortMemory x o e = clash _ (some x) e
 no_number NoVolume x o e = clash _ (some x) e
 no_number Damaged x o e = clash _ (some x) e

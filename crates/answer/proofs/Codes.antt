@@ -1,7 +1,5 @@
 -- The cases of the two numbers: which case the answer is decides them.
 use Rattle.model.proofs.Prelude.{ℕ, zero, suc, ◌^◌, ◌-◌, ◌≤◌, ◌<◌, ◌≡◌, refl, sym, ◌∙◌, List, [], ◌∷◌, arith, lt-ltb, le-ltb}
-use denote.Enum.Declared.{tag_of}
-use types.Run.{OneOf, miss}
 use lib.IntN.{pos, neg_ℤ, ◌-ℤ◌, +ℤ_idl}
 use mir.Syntax.{w64}
 use mir.Val.{SFits, to_z, of_z}
@@ -11,20 +9,16 @@ use Rattle.answer.specs.declared.Answer.{Answer}
 use Rattle.answer.specs.declared.Answer.TheVariants.{Done, Number, ShortMemory, NoVolume, Damaged, JournalOpen, BadName, NotThere}
 use Rattle.answer.specs.declared.Answer.TheVariants.{Taken, LongWrite, PastTheEnd, NoInode, DirectoryFull, NoSpace, BadList}
 use Rattle.answer.specs.declared.Answer.TheVariants.{TooManyGaps, LastPage, WrongType, NotEmpty, IntoItself}
-use Rattle.answer.specs.contracts.Answer.{the_type}
 
--- What the code knows of an answer that is not `Number`: its place among the cases.
-abbrev pub others : List ℕ
-others = 0 ∷ 2 ∷ 3 ∷ 4 ∷ 5 ∷ 6 ∷ 7 ∷ 8 ∷ 9 ∷ 10 ∷ 11 ∷ 12 ∷ 13 ∷ 14 ∷ 15 ∷ 16 ∷ 17 ∷ 18 ∷ 19 ∷ []
-
+-- what the code knows of an answer that is not `Number`
 abbrev pub NoNumber : Answer → Type 0
-NoNumber r = OneOf others (tag_of the_type r)
+NoNumber r = (x : ℕ) → r ≡ Number x → ⊥
 
 -- such an answer is a refusal, or done without a number
 no_number : (a : Answer) → NoNumber a → code_of (meaning a) ≡ neg_ℤ (pos (refusal_of (meaning a)))
 unfolding code_of
 no_number Done o = refl
-no_number (Number x) o = absurd (miss others 1 (tt {0}) o)
+no_number (Number x) o = absurd (o x refl)
 no_number ShortMemory o = refl
 no_number NoVolume o = refl
 no_number Damaged o = refl

@@ -1,5 +1,7 @@
 // A file's state from its log: its size, and the data page of each of its 128 file pages, in a table; 0 is an unmapped
 // page. And whether a file ends as an accepted volume has it. v is the volume, k the inode of a file.
+#![tactic(auto)]
+
 ghost use Rattle.std.specs.Prelude.{◌≡◌, true, false, ◌&&◌, ◌+◌, ◌-◌, ◌*◌, ◌/◌, ◌%◌, ◌≤◌, ◌<◌, eqb, length, set, replicate, get_or};
 ghost use Rattle.model.specs.Lists.{is_some};
 ghost use Rattle.model.specs.Words.{word, byte_at};

@@ -1,0 +1,13 @@
+-- The words and the bytes before them are all the bytes; a word is 0 exactly if its bytes are, since the volume's bytes are below 256.
+use Rattle.model.proofs.Prelude.{arith}
+use Rattle.files.proofs.Ends.{words_not, words_then}
+use Rattle.files.proofs.zeros_at.Goals as goal
+
+pub returns-then-not-zero_words : goal.returns-then-not-zero_words
+returns-then-not-zero_words c =
+    words_not _ (λ j. omega (arith, c.shared_slice_known-1.given j)) _ _ (search) _ c.zero_words.ensures (search)
+
+pub returns : goal.returns
+returns c =
+    words_then _ (λ j. omega (arith, c.shared_slice_known-1.given j)) _ _ (search) _
+    c.zero_words.ensures _ (search) (search)
