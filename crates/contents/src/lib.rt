@@ -1,5 +1,7 @@
 // The bytes of a file, laid into a lent buffer. v is the volume, and the file's data pages stand in a table: entry i is
 // the data page of file page i, and 0 says that file page i is unmapped.
+#![tactic(auto)]
+
 ghost use Rattle.std.specs.Prelude.{◌≡◌, ◌++◌, ◌+◌, ◌-◌, ◌*◌, ◌≤◌, ◌<◌, min, length, drop};
 ghost use Rattle.model.specs.Lists.{values_from};
 ghost use Rattle.model.specs.Words.{word, byte_at};
