@@ -1,6 +1,6 @@
 -- The cases of the functions that judge the inodes one after the other: what holds of the inodes below k and of inode k
 -- holds of those below k + 1, and what fails of one inode fails of all.
-use Rattle.model.proofs.Prelude.{ℕ, zero, suc, ◌+◌, ◌*◌, ◌-◌, ◌≤◌, ◌<◌, ◌≡◌, refl, sym, ◌∙◌, Bool, true, false, not, ◌&&◌, List, ◌++◌, append-nil, arith, length, set, replicate, length-set, length-replicate, get_or-set_same, get_or-set_other, eqb, ne_eqb, not-true, not-false}
+use Rattle.model.proofs.Prelude.{ℕ, zero, suc, ◌+◌, ◌*◌, ◌-◌, ◌≤◌, ◌<◌, ◌≡◌, refl, sym, ◌∙◌, Bool, true, false, not, ◌&&◌, List, ◌++◌, append-nil, arith, length, replicate, length-set, length-replicate, get_or-set_same, get_or-set_other, eqb, ne_eqb, not-true, not-false}
 use Rattle.model.specs.Lists.{all_below}
 use Rattle.model.specs.Words.{Mem}
 use Rattle.model.specs.Layout.{root}

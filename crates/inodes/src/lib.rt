@@ -1,5 +1,7 @@
 // The judge of inodes and pages: every inode is as an accepted volume has it, and no page serves twice. v is the volume,
 // whose sizes and journal were judged before; pages and inodes are its sizes. What the judge has found to serve it marks.
+#![tactic(auto)]
+
 ghost use Rattle.std.specs.Prelude.{◌≡◌, true, false, ◌&&◌, [], ◌+◌, ◌*◌, ◌/◌, ◌≤◌, ◌<◌, length, get_or, replicate};
 ghost use Rattle.model.specs.Lists.{bit, all, is_some, or_else};
 ghost use Rattle.model.specs.Words.{word};
