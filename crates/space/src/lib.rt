@@ -1,5 +1,7 @@
 // Free pages, found in the marks that the judge of a volume left: a byte for each page, 0 where the page is not in use.
 // Every search goes through the marks once.
+#![tactic(auto)]
+
 ghost use Rattle.std.specs.Prelude.{◌≡◌, ◌-◌, ◌≤◌, ◌<◌, length, take, set};
 ghost use Rattle.model.specs.Lists.{or_else, lowest};
 ghost use Rattle.model.specs.Calls.{lowest_run};
