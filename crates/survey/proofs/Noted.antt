@@ -1,5 +1,5 @@
 -- The names of the folders of a view, noted from the highest folder down; u is the view, and F the names of its folders.
-use Rattle.model.proofs.Prelude.{ℕ, suc, ◌+◌, ◌≤◌, ◌<◌, ◌≡◌, refl, sym, ◌∙◌, ⊎_elim, Bool, true, false, not, ◌&&◌, List, [], Option, none, some, arith, leb, ltb, lt-ltb, le-ltb, ltb-true, leb-true}
+use Rattle.model.proofs.Prelude.{ℕ, suc, ◌+◌, ◌≤◌, ◌<◌, ◌≡◌, refl, sym, ◌∙◌, ⊎_elim, Bool, true, false, ◌&&◌, List, [], Option, none, some, arith, leb, ltb, lt-ltb, le-ltb, ltb-true, leb-true}
 use Rattle.model.specs.Lists.{all, has, count, lowest, or_else}
 use Rattle.model.specs.Words.{Mem}
 use Rattle.model.specs.Layout.{is_directory}

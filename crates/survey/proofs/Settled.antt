@@ -1,5 +1,5 @@
 -- When all names are noted: what the table says of the tree is what the acceptance asks of it. u is the view.
-use Rattle.model.proofs.Prelude.{ℕ, ◌+◌, ◌≤◌, ◌<◌, ◌≡◌, refl, sym, ◌∙◌, ⊎_elim, Bool, true, false, not, List, none, arith, get_or, eqb, ltb, eq-eqb, ne_eqb, lt-ltb, le-ltb}
+use Rattle.model.proofs.Prelude.{ℕ, ◌+◌, ◌≤◌, ◌<◌, ◌≡◌, refl, sym, ◌∙◌, ⊎_elim, Bool, true, false, List, arith, get_or, eq-eqb, ne_eqb, lt-ltb, le-ltb}
 use Rattle.model.specs.Words.{Mem}
 use Rattle.model.specs.Layout.{is_directory}
 use Rattle.model.specs.Tree.{name_count, parent_of}

@@ -1,6 +1,8 @@
 // The judge of a volume: whether it is accepted, and the tables that its readers work from. v is the volume.
 // The tables are lent: `places` gets the names of inode 0, as places of their entries, `marks` a 1 for each page in use, and `tree` the
 // state and the parent of each inode. No accepted volume overflows them.
+#![tactic(auto)]
+
 ghost use Rattle.std.specs.Prelude.{◌≡◌, true, false, ◌+◌, ◌-◌, ◌<◌, leb, length, replicate};
 ghost use Rattle.model.specs.Words.{word};
 ghost use Rattle.model.specs.Journal.{view};
