@@ -1,6 +1,8 @@
 // Store lists as they are filled: "pairs of word index and value. The pair 2^64−1, 0 is a fence. Stores between fences form a group, in
 // ascending index, each word once". A group stands in the list from index from to end; stores are put into it in any order, one by one
 // or a run of words at once.
+#![tactic(auto)]
+
 ghost use Rattle.std.specs.Prelude.{◌≡◌, ◌&&◌, [], ◌∷◌, ◌++◌, ◌+◌, ◌*◌, ◌≤◌, ltb, eqb, length, get_or};
 ghost use Rattle.model.specs.Stores.{fence, one_word, run};
 ghost use Rattle.stores.specs.Emitted.{Emitted};
