@@ -1,5 +1,7 @@
 // What commits a first group: the group stands in the list from its start on, and what commits it follows. Words to commit are given as
 // pairs of word index and value, as they stand in a store list. v is the volume, whose journal is closed.
+#![tactic(auto)]
+
 ghost use Rattle.std.specs.Prelude.{[], ◌∷◌, ◌+◌, ◌*◌, ◌/◌, ◌≤◌, ◌<◌, length};
 ghost use Rattle.model.specs.Words.{word};
 ghost use Rattle.model.specs.Stores.{fence};
