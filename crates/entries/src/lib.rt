@@ -1,4 +1,6 @@
 // Log entries as their eight words, "unused words are written 0"; and several of them laid into a lent table, entry n from element 8 n on.
+#![tactic(auto)]
+
 ghost use Rattle.std.specs.Prelude.{◌≡◌, true, ◌+◌, ◌*◌, ◌-◌, ◌≤◌, ◌<◌, ◌^◌, length, get_or, take};
 ghost use Rattle.model.specs.Words.{le_from, word};
 ghost use Rattle.model.specs.Entry.{write_words, size_words, name_words, add_words, remove_words};

@@ -1,0 +1,7 @@
+-- The words of a name field that is as it should be are the name's, since the volume's bytes are below 256.
+use Rattle.model.proofs.Prelude.{arith, rules}
+use Rattle.entries.proofs.Names.{field_word}
+use Rattle.entries.proofs.field_word.Goals as goal
+
+pub returns : goal.returns
+returns c = field_word _ _ (λ j. omega (arith, c.shared_slice_known-1.given j)) (search rules) _ _ (search rules) (search rules)
