@@ -1,4 +1,6 @@
 // What the calls of the file store answer, and the number that C gets for it.
+#![tactic(auto)]
+
 ghost use Rattle.std.specs.Prelude.{◌≡◌, ◌≤◌};
 ghost use Rattle.answer.specs.Meaning.{meaning, refusal_of, code_of};
 
