@@ -1,5 +1,7 @@
 // A log as it is laid into the first group of a lent store list: entries one after the other, each on the tail's page or on a fresh one,
 // with a link in every page left behind. marks has a byte for each page, 0 where the page is not in use.
+#![tactic(auto)]
+
 ghost use Rattle.std.specs.Prelude.{◌≡◌, ◌+◌, ◌*◌, ◌/◌, ◌≤◌, ◌<◌, ◌^◌, length};
 ghost use Rattle.model.specs.Calls.{pages_for};
 ghost use Rattle.laying.specs.Laying.{needed_at, Layable, Turned, Lays, LogLaid};
