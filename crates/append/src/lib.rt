@@ -1,5 +1,7 @@
 // One append, whole: it takes the pages, fills the first group and commits, or answers that it has no room. v is the volume,
 // which is accepted and whose journal is closed; marks has a byte for each page, 0 where the page is not in use.
+#![tactic(auto)]
+
 ghost use Rattle.std.specs.Prelude.{◌≡◌, cond, [], ◌∷◌, ◌+◌, ◌*◌, ◌/◌, ◌≤◌, ◌<◌, ◌^◌, length};
 ghost use Rattle.model.specs.Words.{word};
 ghost use Rattle.model.specs.Layout.{tail_word};
