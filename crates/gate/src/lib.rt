@@ -1,5 +1,7 @@
 // What calls ask of a volume before anything else: that it is one, that it is accepted, and that its journal is closed.
 // v is the volume. The tables are lent, and are those of crate survey.
+#![tactic(auto)]
+
 ghost use Rattle.std.specs.Prelude.{◌≡◌, length, replicate};
 ghost use Rattle.model.specs.Words.{word};
 ghost use Rattle.model.specs.Public.{volume_checks, closed_checks};
