@@ -1,4 +1,6 @@
 // The state of one file of a volume that is judged first: its size and its data pages. v is the volume.
+#![tactic(auto)]
+
 ghost use Rattle.std.specs.Prelude.{◌≡◌, not, ◌||◌, leb, eqb, length, replicate};
 ghost use Rattle.model.specs.Words.{word};
 ghost use Rattle.model.specs.Journal.{view};
