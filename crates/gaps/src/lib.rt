@@ -1,4 +1,6 @@
 // The gaps of a volume (document 02, order 1): its longest stretches of free pages, found in the marks that the judge left.
+#![tactic(auto)]
+
 ghost use Rattle.std.specs.Prelude.{◌≡◌, ◌+◌, ◌*◌, ◌/◌, ◌≤◌, ◌<◌, length, set, replicate};
 ghost use Rattle.model.specs.Words.{word};
 ghost use Rattle.model.specs.Public.{gaps_answer, gaps_words};
