@@ -1,5 +1,7 @@
 // The words of fresh data pages, laid into a lent array before they are stored: element j is word j of the pages. v is the
 // volume, and the file's data pages stand in a table: entry i is the data page of file page i, and 0 says that it is unmapped.
+#![tactic(auto)]
+
 ghost use Rattle.std.specs.Prelude.{◌≡◌, ◌+◌, ◌*◌, ◌≤◌, ◌<◌, length, get_or, set};
 ghost use Rattle.model.specs.Words.{word};
 ghost use Rattle.model.specs.Calls.{pages_covered};
