@@ -1,5 +1,5 @@
 -- Each test of the code is one of the checks, and those before it did not hold. Premises are what the code knows.
-use Rattle.model.proofs.Prelude.{ℕ, ◌≤◌, ◌<◌, ◌≡◌, refl, sym, ◌∙◌, Bool, true, false, not, ◌&&◌, cond, List, [], ◌∷◌, ◌++◌, none, some, le-leb, lt-leb, eq-eqb, ne_eqb, not-true, not-false, leb, eqb, ltb, length, take, and-false, and-true, le-ltb, lt-ltb, arith}
+use Rattle.model.proofs.Prelude.{ℕ, ◌≤◌, ◌<◌, ◌≡◌, refl, sym, ◌∙◌, Bool, true, false, not, ◌&&◌, cond, List, [], ◌∷◌, ◌++◌, some, le-leb, lt-leb, eq-eqb, ne_eqb, not-true, not-false, leb, eqb, ltb, length, take, and-false, and-true, le-ltb, lt-ltb, arith}
 use Rattle.model.specs.Lists.{is_some, or_else}
 use Rattle.model.specs.Words.{Mem, word}
 use Rattle.model.specs.Layout.{most_names, is_directory}

@@ -1,6 +1,8 @@
 // What the calls that change names ask of the folders and names given, behind the gate and before the pages: refusals 5 to 7, 16 to 18, 10
 // and 11. v is the volume, which is accepted. The table of places is that of the gate: it holds the count names of inode 0, and is turned
 // to the folders that the call names. In a file given as a folder no name stands, and none counts as absent.
+#![tactic(auto)]
+
 ghost use Rattle.std.specs.Prelude.{◌≡◌, not, ◌&&◌, ◌<◌, leb, eqb, length};
 ghost use Rattle.model.specs.Words.{word};
 ghost use Rattle.model.specs.Layout.{root, most_names};
