@@ -5,7 +5,7 @@ use Rattle.model.specs.Words.{Mem, word}
 use Rattle.model.specs.Layout.{is_directory}
 use Rattle.model.specs.Journal.{view}
 use Rattle.model.specs.Log.{entries}
-use Rattle.model.specs.State.{file_of, inodes}
+use Rattle.model.specs.State.{file_of}
 use Rattle.model.specs.Tree.{Folders, name_count, parent_of, sum_over, name_counts, folder_total, name_total}
 use Rattle.model.specs.Accept.{is_valid, is_file, is_folder, folders_of, log_ok}
 use Rattle.model.specs.Public.{beneath, counts}

@@ -1,6 +1,8 @@
 // The bytes beneath a folder: the sum over its names, where a file counts its size once for each name and a folder what lies beneath it. v
 // is the volume, which is accepted. Two functions call each other, and the count of inodes still unvisited falls: on a way down from folder
 // to folder no inode comes twice.
+#![tactic(auto)]
+
 ghost use Rattle.std.specs.Prelude.{◌≡◌, true, ◌≤◌, ◌<◌, length, set, get_or};
 ghost use Rattle.model.specs.Lists.{all};
 ghost use Rattle.model.specs.Words.{word};
