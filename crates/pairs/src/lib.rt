@@ -1,4 +1,6 @@
 // The pairs of a store list: whether they are good for a volume, and what carrying them out stores.
+#![tactic(auto)]
+
 ghost use Rattle.std.specs.Prelude.{◌≡◌, true, ◌&&◌, ◌/◌, ◌%◌, length};
 ghost use Rattle.model.specs.Stores.{carried};
 ghost use Rattle.model.specs.Public.{pairs_ok, ends_in_fence};

@@ -1,0 +1,12 @@
+-- Each answer is one case of the definition's tests.
+use Rattle.words.proofs.Cond.{conds}
+use Rattle.pairs.specs.Pairs.{pair_ok}
+use Rattle.pairs.proofs.pair_ok.Goals as goal
+
+pub returns-then-index-eq-FENCE : goal.returns-then-index-eq-FENCE
+unfolding pair_ok
+returns-then-index-eq-FENCE c = search conds
+
+pub returns : goal.returns
+unfolding pair_ok
+returns c = search conds
