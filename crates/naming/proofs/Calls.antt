@@ -1,5 +1,5 @@
 -- The calls by name: behind the gate and the call's first checks what is left is an append to the log of one folder, or of two.
-use Rattle.model.proofs.Prelude.{ℕ, ◌+◌, ◌/◌, ◌≤◌, ◌<◌, ◌≡◌, refl, sym, ◌∙◌, ap, Bool, true, false, not, cond, List, [], ◌∷◌, ◌++◌, some, ⊎_elim, ◌⊎◌, inl, inr, and-false, arith, eq-eqb, ne_eqb, not-false, eqb, ltb, le-ltb, leb-false, length, get_or}
+use Rattle.model.proofs.Prelude.{ℕ, ◌/◌, ◌≤◌, ◌<◌, ◌≡◌, refl, sym, ◌∙◌, ap, Bool, true, false, not, cond, List, [], ◌∷◌, ◌++◌, some, ⊎_elim, ◌⊎◌, inl, inr, and-false, arith, eq-eqb, ne_eqb, not-false, eqb, le-ltb, leb-false, length, get_or}
 use Rattle.model.specs.Lists.{is_some}
 use Rattle.model.specs.Words.{Mem, word}
 use Rattle.model.specs.Layout.{root, is_directory, valid_word}

@@ -1,5 +1,7 @@
 // The calls that change names: create, create folder, link, unlink and rename. Each takes any bytes and numbers, works from the lent volume
 // v alone and fills a lent store list; a refusal leaves the list as it was.
+#![tactic(auto)]
+
 ghost use Rattle.std.specs.Prelude.{◌≡◌, [], ◌<◌};
 ghost use Rattle.model.specs.FileMap.{create, create_folder, link, unlink, rename};
 ghost use Rattle.answer.specs.Comes.{Comes, Fills};
