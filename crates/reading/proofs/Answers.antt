@@ -1,5 +1,5 @@
 -- The calls that read a volume: behind the gate the call's own checks decide, and the gate's tables hold what the rest is read from.
-use Rattle.model.proofs.Prelude.{ℕ, zero, suc, ◌+◌, ◌-◌, ◌*◌, min, ◌≤◌, ◌<◌, ◌≡◌, refl, sym, ◌∙◌, ap, Bool, true, false, not, ◌&&◌, ◌||◌, List, [], ◌∷◌, ◌++◌, map, Option, some, arith, lt-ltb, le-ltb, le-leb, lt-leb, leb, length, take, drop, get_or, length-take, get_or-take, length-take-le}
+use Rattle.model.proofs.Prelude.{ℕ, zero, suc, ◌-◌, ◌*◌, min, ◌≤◌, ◌<◌, ◌≡◌, refl, sym, ◌∙◌, ap, Bool, true, false, not, ◌&&◌, ◌||◌, List, [], ◌∷◌, ◌++◌, map, Option, some, arith, lt-ltb, le-ltb, le-leb, lt-leb, leb, length, take, drop, get_or, length-take, get_or-take, length-take-le}
 use Rattle.model.specs.Lists.{values_from}
 use Rattle.model.specs.Words.{Mem, word}
 use Rattle.model.specs.Layout.{is_directory}

@@ -1,5 +1,7 @@
 // The calls that read a volume. Each works from the lent volume v alone and takes any bytes and any numbers; a refusal leaves every lent
 // byte as it was.
+#![tactic(auto)]
+
 ghost use Rattle.std.specs.Prelude.{◌≡◌};
 ghost use Rattle.model.specs.Public.{find_answer, total_answer, free_answer, kth_name_answer, kth_name_buffer, size_answer, read_answer, read_buffer};
 ghost use Rattle.model.specs.Answer.{done, first_refusal};
