@@ -1,5 +1,7 @@
 // The calls that change a file's bytes and its size: write and set size. Each takes any bytes and numbers, works from the lent volume v
 // alone and fills a lent store list; a refusal leaves the list as it was.
+#![tactic(auto)]
+
 ghost use Rattle.std.specs.Prelude.{◌≡◌, ◌≤◌, length};
 ghost use Rattle.model.specs.Words.{word};
 ghost use Rattle.model.specs.FileMap.{write, set_size};
