@@ -1,5 +1,7 @@
 // The calls that write a log anew and that recover a volume. v is the volume; the list is filled from its start on, and a refusal leaves it
 // as it was.
+#![tactic(auto)]
+
 ghost use Rattle.std.specs.Prelude.{◌≡◌, ◌≤◌, ◌<◌, length};
 ghost use Rattle.model.specs.Words.{word};
 ghost use Rattle.model.specs.Journal.{dequeue_word, enqueue_word, view};
