@@ -1,5 +1,7 @@
 // The calls that store in the volume itself: format and carry out. Both take any bytes and any numbers; a refusal leaves every byte as
 // it was.
+#![tactic(auto)]
+
 ghost use Rattle.std.specs.Prelude.{◌≡◌, ◌++◌, ◌+◌, ◌*◌, ◌/◌, ◌≤◌, length, drop, replicate};
 ghost use Rattle.model.specs.Words.{put_word};
 ghost use Rattle.model.specs.Public.{format_answer, format_volume, carry_answer, carry_volume};
