@@ -1,5 +1,7 @@
 // The text that the program volume_list prints, laid into a lent buffer. Document 01, "Campsite examples", last paragraphs.
 // Each function puts its bytes into the text from index at on, and answers the index behind them. v is the volume.
+#![tactic(auto)]
+
 ghost use Rattle.std.specs.Prelude.{◌≡◌, true, [], ◌∷◌, ◌++◌, ◌+◌, ◌*◌, ◌%◌, ◌≤◌, ◌<◌, length, take, drop};
 ghost use Rattle.model.specs.Words.{word};
 ghost use Rattle.model.specs.Layout.{root};
