@@ -1,6 +1,8 @@
 // The eighteen calls of the file store. Each works from the lent volume v alone, takes any bytes and any numbers, and answers
 // what documents 01 and 02 say; a refusal leaves every lent byte as it was. A call that changes files fills a lent store list and
 // leaves the volume: carry_out stores it.
+#![tactic(auto)]
+
 ghost use Rattle.std.specs.Prelude.{◌≡◌, length};
 ghost use Rattle.model.specs.FileMap.{create, create_folder, link, unlink, rename, write, set_size, clean, recover};
 ghost use Rattle.model.specs.Public.{format_answer, format_volume, carry_answer, carry_volume, find_answer, free_answer, kth_name_answer};
