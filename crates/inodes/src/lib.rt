@@ -188,7 +188,7 @@ pub fn unmarked_at(marks: &[u8; 4096], p: usize, pages: usize, inodes: usize) ->
 }
 
 // Answers how many log and data pages are not marked. Where judge_inodes answered yes and left the marks, it is the count
-// of free pages (proofs/Once.antt, `free-count`).
+// of free pages (proofs/Once.antt, `free_count_lem`).
 // Example: with 16 pages and 8 inodes, of marks that are all 0 but that of page 9, free_count(marks, 16, 8) is 13.
 pub fn free_count(marks: &[u8; 4096], pages: usize, inodes: usize) -> u64
     requires { pages ≤ 4096 }

@@ -120,7 +120,7 @@ fn viewed_from(v: &[u8], w: usize) -> usize
 }
 
 // Reads the view of a word, its value with the open entries put back, and answers it. It is for the words of inodes: a
-// word past the inode table reads as it stands (proofs/Views.antt, `view-raw`).
+// word past the inode table reads as it stands (proofs/Views.antt, `view_raw`).
 // Example: where the one open entry has target 66 and old value 0, viewed(v, 66) is 0 and viewed(v, 65) is word 65.
 pub fn viewed(v: &[u8], w: usize) -> u64
     requires { (word v.now dequeue_word < 16) × (word v.now enqueue_word < 16) × (512 ≤ length v.now)
