@@ -8,5 +8,5 @@ returns-in-Done c = search fold_done
 
 pub returns-in-Full : goal.returns-in-Full
 returns-in-Full c =
-    let bytes : (i : ℕ) → get_or c.args.v.now i 0 < 256 = λ i. omega (arith, c.shared_slice_known-1.given i) in
+    let bytes : (i : ℕ) → get_or c.args.v.now i 0 < 256 = λ i. omega (arith, c.type_inv.v i) in
     search many_names

@@ -8,7 +8,7 @@ index_names-indexed-requires c = (search, search, search none_slots, search none
 
 pub returns-in-Whole : goal.returns-in-Whole
 returns-in-Whole c =
-    let bytes : (i : ℕ) → get_or c.args.v.now i 0 < 256 = λ i. omega (arith, c.shared_slice_known-1.given i) in
+    let bytes : (i : ℕ) → get_or c.args.v.now i 0 < 256 = λ i. omega (arith, c.type_inv.v i) in
     search with_whole
 
 pub returns-in-Bad : goal.returns-in-Bad

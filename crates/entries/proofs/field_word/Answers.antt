@@ -4,4 +4,4 @@ use Rattle.entries.proofs.Names.{field_word}
 use Rattle.entries.proofs.field_word.Goals as goal
 
 pub returns : goal.returns
-returns c = field_word _ _ (λ j. omega (arith, c.shared_slice_known-1.given j)) (search rules) _ _ (search rules) (search rules)
+returns c = field_word _ _ (λ j. omega (arith, c.type_inv.v j)) (search rules) _ _ (search rules) (search rules)

@@ -5,9 +5,9 @@ use Rattle.files.proofs.zeros_at.Goals as goal
 
 pub returns-then-not-zero_words : goal.returns-then-not-zero_words
 returns-then-not-zero_words c =
-    words_not _ (λ j. omega (arith, c.shared_slice_known-1.given j)) _ _ (search) _ c.zero_words.ensures (search)
+    words_not _ (λ j. omega (arith, c.type_inv.v j)) _ _ (search) _ c.zero_words.ensures (search)
 
 pub returns : goal.returns
 returns c =
-    words_then _ (λ j. omega (arith, c.shared_slice_known-1.given j)) _ _ (search) _
+    words_then _ (λ j. omega (arith, c.type_inv.v j)) _ _ (search) _
     c.zero_words.ensures _ (search) (search)

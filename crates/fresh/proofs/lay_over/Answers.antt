@@ -6,4 +6,4 @@ use Rattle.fresh.proofs.lay_over.Goals as goal
 pub returns : goal.returns
 returns c =
     over_laid _ _ _ _ c.lay_bytes.ensures
-    (λ j. omega (arith, c.shared_slice_known-1.given j))
+    (λ j. omega (arith, c.type_inv.bytes j))

@@ -4,4 +4,4 @@ use Rattle.model.proofs.Words.{byte_word}
 use Rattle.words.proofs.byte_at.Goals as goal
 
 pub returns : goal.returns
-returns c = sym (byte_word _ _ (λ j. omega (arith, c.shared_slice_known-1.given j)))
+returns c = sym (byte_word _ _ (λ j. omega (arith, c.type_inv.v j)))
