@@ -20,12 +20,14 @@ take_pages-requires c = (search (rules, ready_pages), search (rules, ready_marks
 
 pub returns-then-not-take_pages : goal.returns-then-not-take_pages
 returns-then-not-take_pages c =
-    refuses_data _ _ _ _ _ _ c.requires _ c.of-sizes.ensures.0 c.of-sizes.ensures.1 _ _ c.old_tail-tail.ensures c.old_tail-second_tail.ensures _
+    refuses_data _ _ _ _ _ _ c.requires _ c.of-sizes.ensures.0 c.of-sizes.ensures.1 _ _ c.old_tail-tail.ensures
+    c.old_tail-second_tail.ensures _
     c.free_count-free.ensures _ _ _ _ c.take_pages.ensures (ap not c.if-not-take_pages.true)
 
 pub returns-in_default : goal.returns-in_default
 returns-in_default c =
-    refuses_log _ _ _ _ _ _ c.requires _ c.of-sizes.ensures.0 c.of-sizes.ensures.1 _ _ c.old_tail-tail.ensures c.old_tail-second_tail.ensures _
+    refuses_log _ _ _ _ _ _ c.requires _ c.of-sizes.ensures.0 c.of-sizes.ensures.1 _ _ c.old_tail-tail.ensures
+    c.old_tail-second_tail.ensures _
     c.free_count-free.ensures _ _ _ _ c.take_pages.ensures (ap not c.if-not-take_pages.false) _ _ _ c.put_stretches-more.ensures.0
     c.put_stretches-more.ensures.1 refl _ _ c.pages_needed-needed.ensures.0 c.pages_needed-second_needed.ensures.0 _ c.room-judged.ensures
     (search rules)
@@ -39,14 +41,16 @@ lay_log-g-requires c =
 
 pub put_rest-requires : goal.put_rest-requires
 put_rest-requires c =
-    rest_asks _ _ _ _ _ _ c.requires _ c.of-sizes.ensures.0 c.of-sizes.ensures.1 _ _ c.old_tail-tail.ensures c.old_tail-second_tail.ensures _
+    rest_asks _ _ _ _ _ _ c.requires _ c.of-sizes.ensures.0 c.of-sizes.ensures.1 _ _ c.old_tail-tail.ensures
+    c.old_tail-second_tail.ensures _
     c.free_count-free.ensures _ _ _ _ c.take_pages.ensures (ap not c.if-not-take_pages.false) _ _ _ c.put_stretches-more.ensures.0
     c.put_stretches-more.ensures.1 refl _ _ c.pages_needed-needed.ensures.0 c.pages_needed-second_needed.ensures.0 _ c.room-judged.ensures _
     c.in-Number.is _ _ c.lay_log-g.ensures
 
 pub lay_second-h-requires : goal.lay_second-h-requires
 lay_second-h-requires c =
-    second_asks _ _ _ _ _ _ c.requires _ c.of-sizes.ensures.0 c.of-sizes.ensures.1 _ _ c.old_tail-tail.ensures c.old_tail-second_tail.ensures
+    second_asks _ _ _ _ _ _ c.requires _ c.of-sizes.ensures.0 c.of-sizes.ensures.1 _ _ c.old_tail-tail.ensures
+    c.old_tail-second_tail.ensures
     _ c.free_count-free.ensures _ _ _ _ c.take_pages.ensures (ap not c.if-not-take_pages.false) _ _ _ c.put_stretches-more.ensures.0
     c.put_stretches-more.ensures.1 refl _ _ c.pages_needed-needed.ensures.0 c.pages_needed-second_needed.ensures.0 _ c.room-judged.ensures _
     c.in-Number.is _ _ c.lay_log-g.ensures _ _ _ c.put_rest.ensures.0 c.put_rest.ensures.1
@@ -64,7 +68,8 @@ to_commit-filled-requires c = let i = ready_inodes _ _ _ _ _ _ c.requires in (i.
 
 pub commit-requires : goal.commit-requires
 commit-requires c =
-    commit_asks _ _ _ _ _ _ c.requires _ c.of-sizes.ensures.0 c.of-sizes.ensures.1 _ _ c.old_tail-tail.ensures c.old_tail-second_tail.ensures
+    commit_asks _ _ _ _ _ _ c.requires _ c.of-sizes.ensures.0 c.of-sizes.ensures.1 _ _ c.old_tail-tail.ensures
+    c.old_tail-second_tail.ensures
     _ c.free_count-free.ensures _ _ _ _ c.take_pages.ensures (ap not c.if-not-take_pages.false) _ _ _ c.put_stretches-more.ensures.0
     c.put_stretches-more.ensures.1 refl _ _ c.pages_needed-needed.ensures.0 c.pages_needed-second_needed.ensures.0 _ c.room-judged.ensures _
     c.in-Number.is _ _ c.lay_log-g.ensures _ _ _ c.put_rest.ensures.0 c.put_rest.ensures.1 _ _ _

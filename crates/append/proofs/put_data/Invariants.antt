@@ -7,7 +7,8 @@ use Rattle.append.proofs.put_data.Given as goal
 abbrev pub invariant-loop-i : goal.invariant-loop-i
 invariant-loop-i l =
     (l.i ≤ l.n) × (l.e + 128 * (l.n - l.i) ≤ l.end + 128 * l.n)
-    × Adding l.initial.list 0 l.end (lay_pages l.pages (element l.«data»)) l.list l.e (lay_pages (drop l.i l.pages) (element_from l.«data» (64 * l.i)))
+    × Adding l.initial.list 0 l.end (lay_pages l.pages (element l.«data»)) l.list l.e
+    (lay_pages (drop l.i l.pages) (element_from l.«data» (64 * l.i)))
 
 abbrev pub decreases-loop-i : goal.decreases-loop-i
 decreases-loop-i l = l.n - l.i

@@ -5,7 +5,8 @@ use Rattle.commit.proofs.put_targets.Given as goal
 
 abbrev pub invariant-loop-j : goal.invariant-loop-j
 invariant-loop-j l =
-    (l.j ≤ l.n) × (l.at ≤ l.e) × (l.e ≤ l.at + 2 * l.j) × (length l.list ≡ length l.initial.list) × Putting l.initial.list l.changes l.at l.n l.list l.e l.j
+    (l.j ≤ l.n) × (l.at ≤ l.e) × (l.e ≤ l.at + 2 * l.j) × (length l.list ≡ length l.initial.list)
+    × Putting l.initial.list l.changes l.at l.n l.list l.e l.j
 
 abbrev pub decreases-loop-j : goal.decreases-loop-j
 decreases-loop-j l = l.n - l.j

@@ -13,7 +13,8 @@ abbrev pub invariant-loop-left : goal.invariant-loop-left
 invariant-loop-left l =
     let rest = words_from l.left (word l.v) l.c.place l.end in
     let All-words = words_from l.initial.left (word l.v) l.initial.c.place l.end in
-    Going (word l.v) (length l.v) l.pages l.left l.c.place l.end × Slots (length l.v) l.index × (length l.index ≡ length l.initial.index) × (l.most + 1 < length l.index)
+    Going (word l.v) (length l.v) l.pages l.left l.c.place l.end × Slots (length l.v) l.index
+    × (length l.index ≡ length l.initial.index) × (l.most + 1 < length l.index)
     × (l.count ≡ taken l.index) × (l.count ≤ l.most)
     × (all (name_entry_ok l.inodes) (map (entry_at (word l.v)) rest) ≡ all (name_entry_ok l.inodes) (map (entry_at (word l.v)) All-words))
     × (index_of (word l.v) l.index rest ≡ index_of (word l.v) l.initial.index All-words)

@@ -9,7 +9,8 @@ use Rattle.entries.proofs.clean_names.Given as goal
 abbrev pub invariant-loop-i : goal.invariant-loop-i
 invariant-loop-i l =
     (l.i ≤ l.count)
-    × Filling l.initial.words l.words l.i (clean_names (standing (word l.v) (slice l.i l.count l.places))) (clean_names (standing (word l.v) (take l.count l.places)))
+    × Filling l.initial.words l.words l.i (clean_names (standing (word l.v) (slice l.i l.count l.places)))
+    (clean_names (standing (word l.v) (take l.count l.places)))
 
 abbrev pub decreases-loop-i : goal.decreases-loop-i
 decreases-loop-i l = l.count - l.i

@@ -9,7 +9,8 @@ use Rattle.inode_log.proofs.walk.Given as goal
 abbrev pub invariant-loop-left : goal.invariant-loop-left
 invariant-loop-left l =
     (l.left ≤ l.pages) × (l.p ≤ l.pages - 1) × (in_pages l.pages l.inodes l.p ≡ true)
-    × Onward (walk (word l.v) l.pages l.inodes l.left l.p l.last) l.marks (walk (word l.v) l.pages l.inodes l.pages l.head l.last) l.initial.marks
+    × Onward (walk (word l.v) l.pages l.inodes l.left l.p l.last) l.marks
+    (walk (word l.v) l.pages l.inodes l.pages l.head l.last) l.initial.marks
 
 abbrev pub decreases-loop-left : goal.decreases-loop-left
 decreases-loop-left l = l.left

@@ -10,7 +10,8 @@ use Rattle.listing.proofs.put_files.Given as goal
 abbrev pub invariant-loop-i : goal.invariant-loop-i
 invariant-loop-i l =
     GoodInodes (view (word l.v)) (word l.v 1) (standing (word l.v) (slice l.i l.count l.places))
-    × Rest l.initial.text l.at (lines_of l.v (standing (word l.v) (take l.count l.places))) l.text l.next (lines_of l.v (standing (word l.v) (slice l.i l.count l.places)))
+    × Rest l.initial.text l.at (lines_of l.v (standing (word l.v) (take l.count l.places))) l.text l.next
+    (lines_of l.v (standing (word l.v) (slice l.i l.count l.places)))
 
 abbrev pub decreases-loop-i : goal.decreases-loop-i
 decreases-loop-i l = l.count - l.i

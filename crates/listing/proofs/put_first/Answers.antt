@@ -5,4 +5,12 @@ use Rattle.listing.proofs.put_first.Goals as goal
 
 pub returns : goal.returns
 returns c =
-    search (rules, first_put, c.put_bytes-a.ensures, c.put_field-b.ensures, c.put_bytes-c.ensures, c.put_field-d.ensures, c.put_byte.ensures)
+    search (
+      rules,
+      first_put,
+      c.put_bytes-a.ensures,
+      c.put_field-b.ensures,
+      c.put_bytes-c.ensures,
+      c.put_field-d.ensures,
+      c.put_byte.ensures,
+    )

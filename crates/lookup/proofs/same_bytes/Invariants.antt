@@ -6,7 +6,8 @@ use Rattle.lookup.proofs.same_bytes.Given as goal
 
 abbrev pub invariant-loop-i : goal.invariant-loop-i
 invariant-loop-i l =
-    same_list (drop l.i (values_from (byte_at (word l.v)) l.at (length l.name))) (drop l.i l.name) ≡ same_list (values_from (byte_at (word l.v)) l.at (length l.name)) l.name
+    same_list (drop l.i (values_from (byte_at (word l.v)) l.at (length l.name))) (drop l.i l.name)
+    ≡ same_list (values_from (byte_at (word l.v)) l.at (length l.name)) l.name
 
 abbrev pub decreases-loop-i : goal.decreases-loop-i
 decreases-loop-i l = length l.name - l.i

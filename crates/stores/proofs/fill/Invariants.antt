@@ -7,7 +7,8 @@ use Rattle.stores.proofs.fill.Given as goal
 abbrev pub invariant-loop-j : goal.invariant-loop-j
 invariant-loop-j l =
     (l.j ≤ length l.words) × (l.a ≡ l.at + 2 * l.j)
-    × Rest l.initial.list l.at (run_text l.w (length l.words) (element l.words)) l.list l.a (run_text (l.w + l.j) (length l.words - l.j) (element_from l.words l.j))
+    × Rest l.initial.list l.at (run_text l.w (length l.words) (element l.words)) l.list l.a
+    (run_text (l.w + l.j) (length l.words - l.j) (element_from l.words l.j))
 
 abbrev pub decreases-loop-j : goal.decreases-loop-j
 decreases-loop-j l = length l.words - l.j

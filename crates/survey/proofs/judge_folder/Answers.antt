@@ -1,4 +1,5 @@
--- Each answer is one law of proofs/Folders.antt: of an empty log, of names that are not good, of one that cannot be noted, of a good folder.
+-- Each answer is one law of proofs/Folders.antt: of an empty log, of names that are not good, of one that cannot be noted, of a good
+-- folder.
 use Rattle.survey.proofs.Folders.{walk_dequeue, walk_enqueue, walk_page, tail_low, tail_room, no_log, walk_long, walk_ready, folder_in_lem, folder_small, folder_type, folder_walk, names_bad, folder_filled, folder_below, notes_bad, notes_good}
 use Rattle.survey.proofs.judge_folder.Goals as goal
 

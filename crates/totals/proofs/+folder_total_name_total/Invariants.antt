@@ -13,7 +13,8 @@ decreases-name_total l = 2 * l.left + 1
 
 abbrev pub invariant-folder_total-loop-i : goal.invariant-folder_total-loop-i
 invariant-folder_total-loop-i l =
-    (l.i ≤ l.n) × (length l.places ≡ 224) × InodesOf l.v l.d l.n l.inodes × (l.sum + rest l.v (l.left - 1) l.d l.i ≡ beneath_in l.v l.left l.d)
+    (l.i ≤ l.n) × (length l.places ≡ 224) × InodesOf l.v l.d l.n l.inodes
+    × (l.sum + rest l.v (l.left - 1) l.d l.i ≡ beneath_in l.v l.left l.d)
 
 abbrev pub decreases-folder_total-loop-i : goal.decreases-folder_total-loop-i
 decreases-folder_total-loop-i l = l.n - l.i

@@ -11,7 +11,8 @@ abbrev pub invariant-loop-left : goal.invariant-loop-left
 invariant-loop-left l =
     (l.i + l.left ≡ l.count) × (all (place_ok (word l.v) (length l.v)) (places_from l.places l.i l.left) ≡ true)
     × (all (below 256) (inodes_from (word l.v) l.places l.i l.left) ≡ true)
-    × (laid_from l.inodes l.i (inodes_from (word l.v) l.places l.i l.left) ≡ laid_from l.initial.inodes 0 (inodes_from (word l.v) l.places 0 l.count))
+    × (laid_from l.inodes l.i (inodes_from (word l.v) l.places l.i l.left)
+    ≡ laid_from l.initial.inodes 0 (inodes_from (word l.v) l.places 0 l.count))
 
 abbrev pub decreases-loop-left : goal.decreases-loop-left
 decreases-loop-left l = l.left

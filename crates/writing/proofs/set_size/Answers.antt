@@ -30,10 +30,12 @@ slice_bounds-make-end-2 c = kept_taken _ _ _ _ _ _ c.lay_kept-n.ensures
 
 pub make-requires : goal.make-requires
 make-requires c =
-    size_ready _ _ _ _ c.if-list-lt-LIST_WORDS.false _ _ _ c.file-state.ensures _ c.in-Number.is c.if-size-gt-FILE_BYTES.false c.if-size-old.false
+    size_ready _ _ _ _ c.if-list-lt-LIST_WORDS.false _ _ _ c.file-state.ensures _ c.in-Number.is c.if-size-gt-FILE_BYTES.false
+    c.if-size-old.false
     _ _ c.lay_kept-n.ensures _ _ c.size_words-e.ensures _ _ _ c.to_file-a.ensures refl
 
 pub returns : goal.returns
 returns c =
-    size_comes _ _ _ _ c.if-list-lt-LIST_WORDS.false _ _ _ c.file-state.ensures _ c.in-Number.is c.if-size-gt-FILE_BYTES.false c.if-size-old.false
+    size_comes _ _ _ _ c.if-list-lt-LIST_WORDS.false _ _ _ c.file-state.ensures _ c.in-Number.is c.if-size-gt-FILE_BYTES.false
+    c.if-size-old.false
     _ _ c.lay_kept-n.ensures _ _ c.size_words-e.ensures _ _ _ c.to_file-a.ensures refl refl refl _ _ c.make.ensures

@@ -23,15 +23,21 @@ pub returns-then-bytes-eq0 : goal.returns-then-bytes-eq0
 returns-then-bytes-eq0 c = search write_none
 
 pub lay_write-requires : goal.lay_write-requires
-lay_write-requires c =
-    (state_within _ _ _ _ _ c.file-state.ensures _ c.in-Number.is, omega arith, c.if-bytes-gt-WRITE_BYTES.false, c.if-end-gt-FILE_BYTES.false)
+lay_write-requires c = (
+  state_within _ _ _ _ _ c.file-state.ensures _ c.in-Number.is,
+  omega arith,
+  c.if-bytes-gt-WRITE_BYTES.false,
+  c.if-end-gt-FILE_BYTES.false,
+)
 
 pub make-requires : goal.make-requires
 make-requires c =
-    write_ready _ _ _ _ _ c.if-list-lt-LIST_WORDS.false _ _ _ c.file-state.ensures _ c.in-Number.is c.if-bytes-gt-WRITE_BYTES.false c.if-end-gt-FILE_BYTES.false c.if-bytes-eq0.false
+    write_ready _ _ _ _ _ c.if-list-lt-LIST_WORDS.false _ _ _ c.file-state.ensures _ c.in-Number.is c.if-bytes-gt-WRITE_BYTES.false
+    c.if-end-gt-FILE_BYTES.false c.if-bytes-eq0.false
     _ c.pages_covered-n.ensures _ c.lay_write.ensures _ _ _ c.to_file-a.ensures refl
 
 pub returns : goal.returns
 returns c =
-    write_comes _ _ _ _ _ c.if-list-lt-LIST_WORDS.false _ _ _ c.file-state.ensures _ c.in-Number.is c.if-bytes-gt-WRITE_BYTES.false c.if-end-gt-FILE_BYTES.false c.if-bytes-eq0.false
+    write_comes _ _ _ _ _ c.if-list-lt-LIST_WORDS.false _ _ _ c.file-state.ensures _ c.in-Number.is c.if-bytes-gt-WRITE_BYTES.false
+    c.if-end-gt-FILE_BYTES.false c.if-bytes-eq0.false
     _ c.pages_covered-n.ensures _ c.lay_write.ensures _ _ _ c.to_file-a.ensures refl c.larger.ensures _ _ c.make.ensures
