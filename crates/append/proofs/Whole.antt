@@ -11,7 +11,7 @@ use Rattle.model.specs.Stores.{Stores, both, only_if, store_list}
 use Rattle.model.specs.Calls as calls
 use Rattle.model.specs.Calls.{lay_pages, stretch_entries, commit, entries_only, besides, lowest_pages, data_pages, appended, fresh_pages, fresh_log, pages_needed, prepared, pages_left, all_needed, all_prepared, all_changes, room_checks, space_checks, action_checks, action_groups}
 use Rattle.model.proofs.Tests.{by_bool, by_eq, by_lt, and_left, no as never, not_not}
-use Rattle.model.proofs.Lists.{few_holds, has_append, has_cons, has_get_d}
+use Rattle.model.proofs.Lists.{few_holds, has_append, has_cons, has_get_or}
 use Rattle.model.proofs.Log.Live.{lay_in}
 use Rattle.model.proofs.State.Stretches.{stretches_some}
 use Rattle.model.proofs.Crash.Stores.{Only, only_word, only_both, only_if_lem}
@@ -360,7 +360,7 @@ module _ (v b : List ℕ) (a : Append) (ws ds l : List ℕ) (y : Ready v b a ws 
       are_pages : ArePages (length (take c ps)) (take c ps)
       unfolding data_pages asked
       are_pages j h =
-          let g = pages_hold f P bound c (get_or D j 0) (has_get_d D j (rw pages_are at h)) in
+          let g = pages_hold f P bound c (get_or D j 0) (has_get_or D j (rw pages_are at h)) in
           rw pages_are (omega (arith, few.0, g.1))
 
       abbrev es₁ : List (List ℕ)
@@ -376,7 +376,7 @@ module _ (v b : List ℕ) (a : Append) (ws ds l : List ℕ) (y : Ready v b a ws 
       unfolding stretch_entries data_pages asked
       some_write h =
           let D₀ = get_or D 0 0 in
-          let g = pages_hold f P bound c D₀ (has_get_d D 0 (omega (arith, long_data))) in
+          let g = pages_hold f P bound c D₀ (has_get_or D 0 (omega (arith, long_data))) in
           let i = stretches_some (data_page D a.file) c a.file h
           (λ z. let e : a.file - a.file ≡ 0 = omega arith in let q = rw e at z in omega (arith, free_bounds u P N D₀ g.0)) in
           let e : more ≡ length (stretches (data_page D a.file) c a.file)

@@ -1,5 +1,5 @@
 -- Bytes and the list of their words are alike: each step of a run does the same to both.
-use Rattle.model.proofs.Prelude.{ℕ, ◌+◌, ◌-◌, ◌*◌, ◌%◌, ◌^◌, ◌≡◌, refl, sym, ◌∙◌, fun_ext, Bool, ◌&&◌, List, [], ◌∷◌, ◌++◌, arith, div-one, zero-add, length, get_or, set, drop, replicate, length-set, length-append, length-drop, length-replicate, get_or-replicate, List·getD-append, List·getD-eq-default, get_or-set_same, get_or-set_other, get_or-append-add, get_or-drop, set_out, eqb}
+use Rattle.model.proofs.Prelude.{ℕ, ◌+◌, ◌-◌, ◌*◌, ◌%◌, ◌^◌, ◌≡◌, refl, sym, ◌∙◌, fun_ext, Bool, ◌&&◌, List, [], ◌∷◌, ◌++◌, arith, div-one, zero-add, length, get_or, set, drop, replicate, length-set, length-append, length-drop, length-replicate, get_or-replicate, get_or-append, get_or-eq_default, get_or-set_same, get_or-set_other, get_or-append-add, get_or-drop, set_out, eqb}
 use Rattle.model.specs.Words.{le_from, word, put_word}
 use Rattle.model.specs.Layout.{sizes_ok, table_pages}
 use Rattle.model.specs.Stores.{fence, carried}
@@ -65,7 +65,7 @@ append u k v l s t =
       len = rw (length-append, length-append) (omega (arith, s.len, t.len));
       words = λ w.
           by_lt w (length k)
-          (λ h. word_append_left u v (length k) w s.len h ∙ s.words w ∙ sym (List·getD-append k l 0 w h))
+          (λ h. word_append_left u v (length k) w s.len h ∙ s.words w ∙ sym (get_or-append k l 0 w h))
           (λ h.
           let e : w ≡ length k + (w - length k) = omega arith in
           rw e (word_append_right u v (length k) (w - length k) s.len ∙ t.words (w - length k) ∙ sym (get_or-append-add k l (w - length k) 0)));
@@ -91,7 +91,7 @@ repeated n b = record { len = rw (length-replicate, length-replicate); words = a
         ∙ sym (get_or-replicate n w (le_from (λ i. b) 0 8) 0 h))
         (λ h.
         word_out (replicate (8 * n) b) w (rw length-replicate (omega arith))
-        ∙ sym (List·getD-eq-default (replicate n (le_from (λ i. b) 0 8)) 0 (rw length-replicate h)))
+        ∙ sym (get_or-eq_default (replicate n (le_from (λ i. b) 0 8)) 0 (rw length-replicate h)))
 
 zeroed : (v l : List ℕ) (n : ℕ) → SameWords v l → SameWords (replicate (8 * n) 0 ++ drop (8 * n) v) (replicate n 0 ++ drop n l)
 zeroed v l n s = append _ _ _ _ (repeated n 0) (rest n v l s)

@@ -1,5 +1,5 @@
 -- Names as words: where a name field is as it should be, its four words are the name's, since the bytes after the name are 0.
-use Rattle.model.proofs.Prelude.{ℕ, ◌+◌, ◌*◌, ◌≤◌, ◌<◌, ◌≡◌, sym, ◌∙◌, ap, true, List, [], ◌∷◌, arith, add-one, length, get_or, take, drop, List·getD-eq-default, get_or-drop, slice, slice-cons, length-slice}
+use Rattle.model.proofs.Prelude.{ℕ, ◌+◌, ◌*◌, ◌≤◌, ◌<◌, ◌≡◌, sym, ◌∙◌, ap, true, List, [], ◌∷◌, arith, add-one, length, get_or, take, drop, get_or-eq_default, get_or-drop, slice, slice-cons, length-slice}
 use Rattle.model.specs.Lists.{values_from}
 use Rattle.model.specs.Words.{Mem, word, byte_at}
 use Rattle.model.specs.Entry.{padded, name_field, name_words, add_words}
@@ -16,7 +16,7 @@ use Rattle.entries.proofs.Entries.{Filling, filling_next, filling_end}
 
 -- `name_byte`
 pub past_end : (n : List ℕ) (i : ℕ) → length n ≤ i → 0 ≡ get_or n i 0
-past_end n i h = sym (List·getD-eq-default n 0 {n = i} h)
+past_end n i h = sym (get_or-eq_default n 0 {n = i} h)
 
 -- `copied_add`: the entry at word w, whose name field is as it should be.
 

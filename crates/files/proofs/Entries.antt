@@ -1,5 +1,5 @@
 -- One entry: whether a file's log may hold it, and what it does. Each kind is a case.
-use Rattle.model.proofs.Prelude.{ℕ, ◌+◌, ◌*◌, ◌-◌, ◌/◌, ◌≤◌, ◌<◌, ◌≡◌, refl, sym, ◌∙◌, ap, fun_ext, Bool, true, false, cond, not, List, arith, leb, length, get_or, List·getD-eq-default, le-leb, lt-leb, leb-true, ltb-true, not-false}
+use Rattle.model.proofs.Prelude.{ℕ, ◌+◌, ◌*◌, ◌-◌, ◌/◌, ◌≤◌, ◌<◌, ◌≡◌, refl, sym, ◌∙◌, ap, fun_ext, Bool, true, false, cond, not, List, arith, leb, length, get_or, get_or-eq_default, le-leb, lt-leb, leb-true, ltb-true, not-false}
 use mir.Val.{Fits}
 use mir.Syntax.{w64}
 use Rattle.model.specs.Entry.{Entry as Full, write_entry, size_entry, add_entry, remove_entry, no_entry, file_entry_ok}
@@ -118,7 +118,7 @@ module _ (e : Entry) (ok : file_entry_ok 4096 0 (meant e) ≡ true) where
         λ j. by_lt j i (λ l. rw (outside i (i + n) j (λ x y. omega arith), lt-leb z (512 * j) (omega arith)))
         (λ l. rw (le-leb z (512 * j) (omega arith))
         (by_lt j 128 (λ k. rw (inside i (i + n) j l (omega arith)))
-        (λ k. rw (outside i (i + n) j (λ x y. omega arith)) (List·getD-eq-default t 0 {n = j} (omega arith))))) in
+        (λ k. rw (outside i (i + n) j (λ x y. omega arith)) (get_or-eq_default t 0 {n = j} (omega arith))))) in
         record {
           file = rw h (filled_file z i n (λ i. 0) _ g (omega arith) p);
           long = ap length g ∙ length_filled (λ i. 0) n t i ∙ long;

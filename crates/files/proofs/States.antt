@@ -1,5 +1,5 @@
 -- A file's state by its inode: the entries that the fold met are those of the model, and a table of zeros is the empty file.
-use Rattle.model.proofs.Prelude.{ℕ, ◌≡◌, ◌∙◌, ap, fun_ext, Bool, true, false, List, length, replicate, get_or-replicate, length-replicate, List·getD-eq-default}
+use Rattle.model.proofs.Prelude.{ℕ, ◌≡◌, ◌∙◌, ap, fun_ext, Bool, true, false, List, length, replicate, get_or-replicate, length-replicate, get_or-eq_default}
 use Rattle.model.specs.Lists.{is_some}
 use Rattle.model.specs.Words.{Mem}
 use Rattle.model.specs.Layout.{is_directory}
@@ -17,7 +17,7 @@ empty_table : (n : ℕ) → file_from 0 (replicate n 0) ≡ empty_file
 unfolding empty_file
 empty_table n =
     let f : (ℕ → ℕ) → File = λ y. record { size = 0; page = y } in
-    ap f (fun_ext (λ i. by_lt i n (get_or-replicate n i 0 0) (λ l. List·getD-eq-default (replicate n 0) 0 {n = i} (rw length-replicate l))))
+    ap f (fun_ext (λ i. by_lt i n (get_or-replicate n i 0 0) (λ l. get_or-eq_default (replicate n 0) 0 {n = i} (rw length-replicate l))))
 
 pub zeros_long : (w : List ℕ) → w ≡ replicate 128 0 → length w ≡ 128
 zeros_long w e = ap length e ∙ length-replicate {A = ℕ} 128 0

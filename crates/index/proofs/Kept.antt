@@ -1,6 +1,6 @@
 -- The index is a map from names to places: noting a name changes what the index has for that name and for no other, since an empty slot
 -- lies on no way that a look-up of a name in it goes, and a slot that is taken keeps its name.
-use Rattle.model.proofs.Prelude.{ℕ, zero, suc, ◌+◌, ◌*◌, ◌≤◌, ◌<◌, ◌≡◌, refl, sym, ◌∙◌, ap, Bool, true, false, not, cond, ◌&&◌, ◌||◌, List, [], ◌∷◌, arith, eqb, length, get_or, set, replicate, length-set, length-replicate, get_or-replicate, List·getD-eq-default, get_or-set_same, get_or-set_other, eq-eqb, ne_eqb, eqb-true, not-false}
+use Rattle.model.proofs.Prelude.{ℕ, zero, suc, ◌+◌, ◌*◌, ◌≤◌, ◌<◌, ◌≡◌, refl, sym, ◌∙◌, ap, Bool, true, false, not, cond, ◌&&◌, ◌||◌, List, [], ◌∷◌, arith, eqb, length, get_or, set, replicate, length-set, length-replicate, get_or-replicate, get_or-eq_default, get_or-set_same, get_or-set_other, eq-eqb, ne_eqb, eqb-true, not-false}
 use Rattle.model.specs.Lists.{bit, filter}
 use Rattle.model.specs.Words.{Mem}
 use Rattle.model.proofs.Tests.{by_bool, by_eq, by_lt, clash, ands, or_false, bit_le}
@@ -283,7 +283,7 @@ module _ (m : Mem) (M : ℕ) where
   none_held : (s : ℕ) → ◌≡◌ {A = ℕ} (get_or (replicate M 0) s 0) 0
   none_held s =
       by_lt s M (λ h. get_or-replicate {A = ℕ} M s 0 0 h)
-      (λ h. let e = length-replicate {A = ℕ} M 0 in List·getD-eq-default (replicate M 0) 0 {n = s} (omega arith))
+      (λ h. let e = length-replicate {A = ℕ} M 0 in get_or-eq_default (replicate M 0) 0 {n = s} (omega arith))
 
   pub none_indexed : Indexed m (replicate M 0)
   none_indexed = record { found = λ s h d. absurd (d (none_held s)) }

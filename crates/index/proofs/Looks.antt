@@ -4,7 +4,7 @@ use mir.Val.{Fits}
 use mir.Syntax.{w64}
 use Rattle.model.specs.Lists.{bit, all}
 use Rattle.model.specs.Words.{Mem}
-use Rattle.model.proofs.Lists.{all_cons, all_has, has_get_d}
+use Rattle.model.proofs.Lists.{all_cons, all_has, has_get_or}
 use Rattle.inode_log.specs.Entries.{name_in}
 use Rattle.inode_log.specs.declared.Name.{Name}
 use Rattle.index.specs.Index.{same_name, weighed_of, spread_of, home_of, next_slot, seek, ends_at, slot_of, held, noted, lies_in, Slots, Noted}
@@ -69,7 +69,7 @@ slot_after M s e h = (rw (ne_eqb (s + 1) M e), omega arith)
 
 -- what a slot holds lies in the volume
 pub slot_in : (L : ℕ) (l : List ℕ) (s p : ℕ) → Slots L l → s < length l → p ≡ get_or l s 0 → 64 * p + 64 ≤ L
-slot_in L l s p k h e = rw e (leb-true (64 * get_or l s 0 + 64) L (all_has (lies_in L) (get_or l s 0) l k.inside (has_get_d l s h)))
+slot_in L l s p k h e = rw e (leb-true (64 * get_or l s 0 + 64) L (all_has (lies_in L) (get_or l s 0) l k.inside (has_get_or l s h)))
 
 -- The loop of a look-up: k slots are left, from slot s on; p is what the slot holds, and r whether that has the name.
 

@@ -1,10 +1,10 @@
 -- The first words of a log's entries: none comes twice, since its pages differ, and each is eight words behind the one before or starts a page.
-use Rattle.model.proofs.Prelude.{ℕ, zero, suc, ◌+◌, ◌*◌, ◌/◌, ◌%◌, ◌≤◌, ◌≡◌, refl, sym, ◌∙◌, ⊎_elim, true, false, List, [], ◌∷◌, ◌++◌, Option, none, some, arith, eq-eqb, le-leb, subst}
+use Rattle.model.proofs.Prelude.{ℕ, zero, suc, ◌+◌, ◌*◌, ◌/◌, ◌%◌, ◌≤◌, ◌≡◌, refl, sym, ◌∙◌, ⊎_elim, true, false, List, [], ◌∷◌, ◌++◌, Option, none, some, arith, eq-eqb, le-leb}
 use Rattle.model.specs.Lists.{all, has, distinct, or_else}
 use Rattle.model.specs.Words.{Mem}
 use Rattle.model.specs.Log.{slots, entry_words, log_pages, pages, tail_slots}
 use Rattle.model.proofs.Tests.{by_bool, no}
-use Rattle.model.proofs.Lists.{has_cons, has_append, has_head, has_tail, distinct_cons, all_by}
+use Rattle.model.proofs.Lists.{has_cons, has_append, has_head, has_tail, distinct_cons, all_by, has_front}
 use Rattle.model.proofs.Log.Pages.{slots_range}
 use Rattle.model.proofs.Log.Distinct.{log_distinct, log_inside, inside_at}
 use Rattle.inode_log.specs.Found.{is_placed}
@@ -38,13 +38,13 @@ words_in [] c w l h = no h
 words_in (p ∷ []) c w l h =
     let r = slots_range c (64 * p) w h in
     let e : w / 64 ≡ p = omega arith in
-    (subst (λ t. has t (p ∷ []) ≡ true) (sym e) (has_head p []), slots_eight c (64 * p) w (omega arith) h)
+    (has_front (w / 64) p [] e, slots_eight c (64 * p) w (omega arith) h)
 words_in (p ∷ q ∷ ps) c w l h =
     ⊎_elim {C = (has (w / 64) (p ∷ q ∷ ps) ≡ true) × (w % 8 ≡ 0)}
     (λ g.
     let r = slots_range 7 (64 * p) w g in
     let e : w / 64 ≡ p = omega arith in
-    (subst (λ t. has t (p ∷ q ∷ ps) ≡ true) (sym e) (has_head p (q ∷ ps)), slots_eight 7 (64 * p) w (omega arith) g))
+    (has_front (w / 64) p (q ∷ ps) e, slots_eight 7 (64 * p) w (omega arith) g))
     (λ g. let r = words_in (q ∷ ps) c w l g in (has_tail (w / 64) p (q ∷ ps) r.0, r.1))
     (has_append w (slots 7 (64 * p)) (entry_words (q ∷ ps) c) h)
 

@@ -1,10 +1,10 @@
 -- Names in fields: a field that is as it should be is its name and zeros, since what follows the name is.
-use Rattle.model.proofs.Prelude.{ℕ, zero, suc, ◌+◌, ◌*◌, ◌-◌, ◌≤◌, ◌<◌, ◌≡◌, refl, sym, ◌∙◌, ap, Bool, true, false, List, ◌∷◌, ◌++◌, arith, length, get_or, take, drop, length-take, length-drop, List·getD-eq-default, ext_get_or, get_or-take, get_or-drop, eqb-true, leb-true}
+use Rattle.model.proofs.Prelude.{ℕ, zero, suc, ◌+◌, ◌*◌, ◌-◌, ◌≤◌, ◌<◌, ◌≡◌, refl, sym, ◌∙◌, ap, Bool, true, false, List, ◌∷◌, ◌++◌, arith, length, get_or, take, drop, length-take, length-drop, get_or-eq_default, ext_get_or, get_or-take, get_or-drop, eqb-true, leb-true}
 use Rattle.model.specs.Lists.{all, same_list, values_from}
 use Rattle.model.specs.Words.{Mem, byte_at}
 use Rattle.model.specs.Entry.{padded, name_field, is_zero, field_ok}
 use Rattle.model.proofs.Tests.{by_lt, ands}
-use Rattle.model.proofs.Lists.{length_values, has_get_d, all_has, same_ne}
+use Rattle.model.proofs.Lists.{length_values, has_get_or, all_has, same_ne}
 use Rattle.model.proofs.Log.Decode.{length_padded, padded_at}
 use Rattle.directory.specs.Fields.{name_at, field_at}
 
@@ -30,8 +30,8 @@ field_is l f ok h =
     let e : l + (i - l) ≡ i = omega arith in
     let y : get_or f i 0 ≡ 0 =
     ap (λ (j : ℕ). get_or f j 0) (sym e) ∙ sym (get_or-drop l f (i - l) 0)
-    ∙ eqb-true (get_or (drop l f) (i - l) 0) 0 (all_has is_zero (get_or (drop l f) (i - l) 0) (drop l f) z (has_get_d (drop l f) (i - l) d)) in
-    y ∙ sym (padded_at (take l f) i ∙ List·getD-eq-default (take l f) 0 {n = i} (omega arith))))
+    ∙ eqb-true (get_or (drop l f) (i - l) 0) 0 (all_has is_zero (get_or (drop l f) (i - l) 0) (drop l f) z (has_get_or (drop l f) (i - l) d)) in
+    y ∙ sym (padded_at (take l f) i ∙ get_or-eq_default (take l f) 0 {n = i} (omega arith))))
 
 -- The entry at word w, whose name field is as it should be; x is its name's length as the code read it.
 

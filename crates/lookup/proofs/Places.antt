@@ -4,7 +4,7 @@ use Rattle.model.specs.Lists.{same_list}
 use Rattle.model.specs.Words.{Mem}
 use Rattle.model.specs.State.{inode_of}
 use Rattle.model.proofs.Tests.{ands}
-use Rattle.model.proofs.Lists.{has_get_d, all_has, no_length}
+use Rattle.model.proofs.Lists.{has_get_or, all_has, no_length}
 use Rattle.directory.specs.Fields.{name_at, field_at}
 use Rattle.directory.specs.Places.{standing, place_ok, Filled}
 
@@ -24,7 +24,7 @@ module _ (m : Mem) (L c i p : ℕ) (t : List ℕ) (filled : Filled m L c t) (l :
   place_ok_lem =
       let k : length (take c t) ≡ c = length-take-le c t (omega arith) in
       let g : get_or (take c t) i 0 ≡ p = get_or-take c t i 0 l ∙ sym e in
-      rw g at (all_has (place_ok m L) (get_or (take c t) i 0) (take c t) filled.oks (has_get_d (take c t) i (omega arith)))
+      rw g at (all_has (place_ok m L) (get_or (take c t) i 0) (take c t) filled.oks (has_get_or (take c t) i (omega arith)))
 
   pub here_in : 64 * p + 64 ≤ L
   here_in = place_in m L p place_ok_lem

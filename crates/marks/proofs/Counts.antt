@@ -1,6 +1,6 @@
 -- Pages that can be marked one after the other are pages that serve once: a mark counts as one use, and each page
 -- marked moves one use from the list into the marks.
-use Rattle.model.proofs.Prelude.{ℕ, zero, suc, ◌+◌, ◌≤◌, ◌<◌, ◌≡◌, refl, sym, ◌∙◌, true, false, ◌&&◌, List, [], ◌∷◌, ◌++◌, arith, add-zero, zero-add, length, get_or, set, replicate, length-set, get_or-replicate, length-replicate, List·getD-eq-default, get_or-set_same, get_or-set_other, eqb, eq-eqb, ne_eqb, eqb-true, le-leb, lt-leb}
+use Rattle.model.proofs.Prelude.{ℕ, zero, suc, ◌+◌, ◌≤◌, ◌<◌, ◌≡◌, refl, sym, ◌∙◌, true, false, ◌&&◌, List, [], ◌∷◌, ◌++◌, arith, add-zero, zero-add, length, get_or, set, replicate, length-set, get_or-replicate, length-replicate, get_or-eq_default, get_or-set_same, get_or-set_other, eqb, eq-eqb, ne_eqb, eqb-true, le-leb, lt-leb}
 use Rattle.model.specs.Lists.{bit, all, has, count, sum_below, all_below}
 use Rattle.model.specs.Words.{Mem}
 use Rattle.model.specs.Layout.{in_pages, is_directory, file_pages}
@@ -115,7 +115,7 @@ module _ (u : Mem) (P N : ℕ) where
 -- All pages that serve, marked on marks of which none is set.
 
 no_mark : (p : ℕ) → ◌≡◌ {A = ℕ} (get_or (replicate 4096 0) p 0) 0
-no_mark p = by_lt p 4096 (get_or-replicate 4096 p 0 0) (λ l. List·getD-eq-default (replicate 4096 0) 0 {n = p} (rw length-replicate l))
+no_mark p = by_lt p 4096 (get_or-replicate 4096 p 0 0) (λ l. get_or-eq_default (replicate 4096 0) 0 {n = p} (rw length-replicate l))
 
 module _ (u : Mem) (P N : ℕ) (low : P ≤ 4096) (ins : all (in_pages P N) (used_below u P N N) ≡ true) where
   module _ (f : fresh (replicate 4096 0) (used_below u P N N) ≡ true) where

@@ -1,6 +1,6 @@
 -- Format: up to the end of the table every word but 0, 1, 2 and 64 is 0. So the journal is closed, inode 0's log is empty and no other
 -- inode is valid.
-use Rattle.model.proofs.Prelude.{◌≡◌, sym, ◌∙◌, ℕ, ◌+◌, ◌-◌, ◌*◌, ◌≤◌, ◌<◌, true, false, cond, and-false, List, [], ◌++◌, none, some, arith, length, get_or, drop, replicate, length-append, length-drop, length-replicate, get_or-replicate, List·getD-append, eqb, eq-eqb, ne_eqb, lt-ltb, le-ltb}
+use Rattle.model.proofs.Prelude.{◌≡◌, sym, ◌∙◌, ℕ, ◌+◌, ◌-◌, ◌*◌, ◌≤◌, ◌<◌, true, false, cond, and-false, List, [], ◌++◌, none, some, arith, length, get_or, drop, replicate, length-append, length-drop, length-replicate, get_or-replicate, get_or-append, eqb, eq-eqb, ne_eqb, lt-ltb, le-ltb}
 use Rattle.model.specs.Lists.{bit, all, count, foldl}
 use Rattle.model.specs.Words.{Mem, word, put_word}
 use Rattle.model.specs.Layout.{sizes_ok, table_pages, valid_word, tail_word, is_directory, in_pages, root}
@@ -46,7 +46,7 @@ module _ (v : List ℕ) (P N : ℕ) (sizes : sizes_ok P N ≡ true) (whole : len
   unfolding word
   zeros_at_lem w h =
       le_from_same 8 (λ i. get_or zeros i 0) (λ i. 0) (8 * w)
-      (λ k g f. List·getD-append (replicate t 0) (drop t v) 0 k (rw length-replicate (omega arith)) ∙ get_or-replicate t k 0 0 (omega arith))
+      (λ k g f. get_or-append (replicate t 0) (drop t v) 0 k (rw length-replicate (omega arith)) ∙ get_or-replicate t k 0 0 (omega arith))
 
   zeros_length : length zeros ≡ 512 * P
   zeros_length = rw (length-append, length-replicate, length-drop, whole) (omega (arith, s.room))

@@ -14,7 +14,7 @@ use Rattle.model.specs.Stores.{Stores, one_word, no_words, both, only_if, listed
 use Rattle.model.specs.Calls.{lay_entries, lay_pages, tail_after, pages_for, tail_pages, Change, commit_one, journal_pairs, targets, commit_together, commit, stretch_entries, Append, entries_only, data_pages, appended, fresh_pages, fresh_log, pages_left, prepared, all_prepared, all_changes, action_checks, action_groups, none_there, leads_to, stands, release, invalid_inode, create_action, link_action, unlink_action, same_inode, rename_appends, rename_action, file_checks, write_append, write_action, cuts_page, size_append, size_action, clean_names, clean_entries, clean_action, old_values, recover_action, action, checks, groups}
 use Rattle.model.specs.Promises.{most_words}
 use Rattle.model.proofs.Tests.{by_bool, by_eq, by_lt, ands, or_false, cond_some, bit_le}
-use Rattle.model.proofs.Lists.{length_values, has_left, has_right, values_has, get_d_index, has_head, few_length}
+use Rattle.model.proofs.Lists.{length_values, has_left, has_right, values_has, get_or_index, has_head, few_length}
 use Rattle.model.proofs.State.FoldersOk.{folders_fine}
 use Rattle.model.proofs.State.Stretches.{stretches_length}
 use Rattle.model.proofs.State.Clean.{clean_file_length}
@@ -135,7 +135,7 @@ module _ (ps : List ℕ) (i : ℕ) (es : List (List ℕ)) where
       let o = w % 64 in
       let s = 7 * j + o / 8 in
       let c = cond_some (ltb j (length ps)) _ x e in
-      let p : get_or ps j 0 ≡ w / 64 = get_d_index (w / 64) ps (ltb-true j (length ps) c.0) in
+      let p : get_or ps j 0 ≡ w / 64 = get_or_index (w / 64) ps (ltb-true j (length ps) c.0) in
       by_eq o 56
       (λ h.
       let l = ltb-true (j + 1) (length ps) (cond_some (ltb (j + 1) (length ps)) _ x (rw (eq-eqb o 56 h) at c.1)).0 in
@@ -170,7 +170,7 @@ most_pages ps f =
       only = λ w x e.
           let i = index_of (w / 64) ps in
           let l = ltb-true i (length ps) (cond_some (ltb i (length ps)) (some (f (64 * i + w % 64))) x e).0 in
-          let g = get_d_index (w / 64) ps l in
+          let g = get_or_index (w / 64) ps l in
           let j = 64 * i + w % 64 in
           let c : j / 64 ≡ i = omega arith in
           let d : j % 64 ≡ w % 64 = omega arith in

@@ -1,5 +1,5 @@
 -- Laws of the bounded tests, sums and searches of specs/Lists, and of elements of lists. By induction on the bound or the list.
-use Rattle.model.proofs.Prelude.{◌≡◌, refl, sym, ◌∙◌, ap, ◌⊎◌, inl, inr, ⊎_elim, ⊎_map, subst, ℕ, zero, suc, ◌+◌, ◌-◌, ◌≤◌, ◌<◌, Bool, true, false, List, [], ◌∷◌, ◌++◌, map, some, arith, add-zero, add-one, length, get_or, take, drop, replicate, List·getD-append, get_or-append-add, eqb, eq-eqb, ne_eqb, eqb-true, eqb-false}
+use Rattle.model.proofs.Prelude.{◌≡◌, refl, sym, ◌∙◌, ap, ◌⊎◌, inl, inr, ⊎_elim, ⊎_map, subst, ℕ, zero, suc, ◌+◌, ◌-◌, ◌≤◌, ◌<◌, Bool, true, false, List, [], ◌∷◌, ◌++◌, map, some, arith, add-zero, add-one, length, get_or, take, drop, replicate, get_or-append, get_or-append-add, eqb, eq-eqb, ne_eqb, eqb-true, eqb-false}
 use Rattle.model.specs.Lists.{bit, all_below, sum_below, values_from, lowest, lowest_few, all, filter, foldl, has, count, index_of, distinct, same_list}
 use Rattle.model.proofs.Tests.{by_bool, by_eq, by_lt, no, not_some, cond_and, cond_or, cond_not, cond_neither, same_test, bit_other, bit_same}
 
@@ -131,17 +131,20 @@ has_append x [] ys h = inr h
 has_append x (y ∷ xs) ys h =
     ⊎_elim (λ e. inl (rw e (has_head y xs))) (λ k. ⊎_map (has_tail x y xs) (λ i. i) (has_append x xs ys k)) (has_cons x y (xs ++ ys) h)
 
-pub has_get_d : (ps : List ℕ) (j : ℕ) → j < length ps → has (get_or ps j 0) ps ≡ true
-has_get_d [] j h = absurd (omega arith)
-has_get_d (p ∷ ps) zero h = has_head p ps
-has_get_d (p ∷ ps) (suc j) h = has_tail (get_or ps j 0) p ps (has_get_d ps j (omega arith))
+pub has_get_or : (ps : List ℕ) (j : ℕ) → j < length ps → has (get_or ps j 0) ps ≡ true
+has_get_or [] j h = absurd (omega arith)
+has_get_or (p ∷ ps) zero h = has_head p ps
+has_get_or (p ∷ ps) (suc j) h = has_tail (get_or ps j 0) p ps (has_get_or ps j (omega arith))
+
+-- a list that begins with x has it
+pub has_front : (x y : ℕ) (ys : List ℕ) → x ≡ y → has x (y ∷ ys) ≡ true
+has_front x y ys e = subst (λ t. has t (y ∷ ys) ≡ true) (sym e) (has_head y ys)
 
 pub has_left : (x : ℕ) (xs ys : List ℕ) → has x xs ≡ true → has x (xs ++ ys) ≡ true
 unfolding has
 has_left x [] ys h = no h
 has_left x (y ∷ xs) ys h =
-    ⊎_elim (λ e. subst (λ t. has t (y ∷ (xs ++ ys)) ≡ true) (sym e) (has_head y (xs ++ ys)))
-    (λ g. has_tail x y (xs ++ ys) (has_left x xs ys g)) (has_cons x y xs h)
+    ⊎_elim (has_front x y (xs ++ ys)) (λ g. has_tail x y (xs ++ ys) (has_left x xs ys g)) (has_cons x y xs h)
 
 pub has_right : (x : ℕ) (xs ys : List ℕ) → has x ys ≡ true → has x (xs ++ ys) ≡ true
 has_right x [] ys h = h
@@ -150,7 +153,7 @@ has_right x (y ∷ xs) ys h = has_tail x y (xs ++ ys) (has_right x xs ys h)
 pub values_has : (f : ℕ → ℕ) (x n i : ℕ) → x ≤ i → i < x + n → has (f i) (values_from f x n) ≡ true
 values_has f x n i a b =
     let e : x + (i - x) ≡ i = omega arith in
-    rw (values_at f x n (i - x) (omega arith), e) at (has_get_d (values_from f x n) (i - x) (rw length_values (omega arith)))
+    rw (values_at f x n (i - x) (omega arith), e) at (has_get_or (values_from f x n) (i - x) (rw length_values (omega arith)))
 
 -- Counts.
 
@@ -193,12 +196,12 @@ index_has x [] h = absurd (omega arith)
 index_has x (p ∷ ps) h =
     by_bool (eqb x p) (λ e. rw (has, e)) (λ e. rw (has, e) (index_has x ps (let g = rw (index_of, e) at h in omega arith)))
 
-pub get_d_index : (x : ℕ) (ps : List ℕ) → index_of x ps < length ps → get_or ps (index_of x ps) 0 ≡ x
+pub get_or_index : (x : ℕ) (ps : List ℕ) → index_of x ps < length ps → get_or ps (index_of x ps) 0 ≡ x
 unfolding index_of
-get_d_index x [] h = absurd (omega arith)
-get_d_index x (p ∷ ps) h =
+get_or_index x [] h = absurd (omega arith)
+get_or_index x (p ∷ ps) h =
     by_bool (eqb x p) (λ e. rw (index_of, e) (sym (eqb-true x p e)))
-    (λ e. let g = rw (index_of, e) at h in rw (index_of, e, add-one (index_of x ps)) (get_d_index x ps (omega arith)))
+    (λ e. let g = rw (index_of, e) at h in rw (index_of, e, add-one (index_of x ps)) (get_or_index x ps (omega arith)))
 
 pub index_first : (p : ℕ) (ps : List ℕ) → index_of p (p ∷ ps) ≡ 0
 unfolding index_of
@@ -213,14 +216,14 @@ distinct_cons p ps h = cond_not (has p ps) (distinct ps) h
 pub apart : (x p : ℕ) (ps : List ℕ) → has p ps ≡ false → has x ps ≡ true → x ≡ p → ⊥
 apart x p ps f h e = no (sym f ∙ (rw e at h))
 
-pub index_get_d : (ps : List ℕ) (j : ℕ) → distinct ps ≡ true → j < length ps → index_of (get_or ps j 0) ps ≡ j
+pub index_get_or : (ps : List ℕ) (j : ℕ) → distinct ps ≡ true → j < length ps → index_of (get_or ps j 0) ps ≡ j
 unfolding index_of
-index_get_d [] j d h = absurd (omega arith)
-index_get_d (p ∷ ps) zero d h = rw (index_of, eq-eqb p p refl)
-index_get_d (p ∷ ps) (suc j) d h =
+index_get_or [] j d h = absurd (omega arith)
+index_get_or (p ∷ ps) zero d h = rw (index_of, eq-eqb p p refl)
+index_get_or (p ∷ ps) (suc j) d h =
     let c = distinct_cons p ps d in
     let i : j < length ps = omega arith in
-    rw (ne_eqb (get_or ps j 0) p (apart (get_or ps j 0) p ps c.0 (has_get_d ps j i)), index_get_d ps j c.1) (add-one j)
+    rw (ne_eqb (get_or ps j 0) p (apart (get_or ps j 0) p ps c.0 (has_get_or ps j i)), index_get_or ps j c.1) (add-one j)
 
 -- a number stands at most once among distinct ones
 pub count_once : (x : ℕ) (ps : List ℕ) → distinct ps ≡ true → count x ps ≤ 1
@@ -409,11 +412,11 @@ same_sym a b = same_test _ _ (λ e. rw (same_true a b e) (same_refl b)) (λ e. r
 -- Elements of two lists put together.
 
 module _ {A : Type 0} (d : A) where
-  pub get_d_left : (xs ys : List A) (i : ℕ) → i < length xs → get_or (xs ++ ys) i d ≡ get_or xs i d
-  get_d_left xs ys i h = List·getD-append xs ys d i h
+  pub get_or_left : (xs ys : List A) (i : ℕ) → i < length xs → get_or (xs ++ ys) i d ≡ get_or xs i d
+  get_or_left xs ys i h = get_or-append xs ys d i h
 
-  pub get_d_right : (xs ys : List A) (i : ℕ) → length xs ≤ i → get_or (xs ++ ys) i d ≡ get_or ys (i - length xs) d
-  get_d_right xs ys i h =
+  pub get_or_right : (xs ys : List A) (i : ℕ) → length xs ≤ i → get_or (xs ++ ys) i d ≡ get_or ys (i - length xs) d
+  get_or_right xs ys i h =
       let e : i ≡ length xs + (i - length xs) = omega arith in
       ap (λ (k : ℕ). get_or (xs ++ ys) k d) e ∙ get_or-append-add xs ys (i - length xs) d
 

@@ -1,5 +1,5 @@
 -- Laws of words: a stored word reads back, other words stay, a part's words are the whole's. By induction on the count of bytes.
-use Rattle.model.proofs.Prelude.{ℕ, zero, suc, ◌+◌, ◌*◌, ◌/◌, ◌%◌, ◌^◌, ◌≤◌, ◌<◌, ◌≡◌, refl, ap, sym, ◌∙◌, cond, List, ◌++◌, arith, mod-eq_of_lt, add-zero, add_assoc, mul-add, div-one, div-div-eq-div-mul, pow-succ', one-le-pow, length, get_or, set, drop, length-set, List·getD-append, List·getD-eq-default, get_or-set_same, get_or-set_other, get_or-drop, get_or-append-add, set_out, eqb, eq-eqb, ne_eqb}
+use Rattle.model.proofs.Prelude.{ℕ, zero, suc, ◌+◌, ◌*◌, ◌/◌, ◌%◌, ◌^◌, ◌≤◌, ◌<◌, ◌≡◌, refl, ap, sym, ◌∙◌, cond, List, ◌++◌, arith, mod-eq_of_lt, add-zero, add_assoc, mul-add, div-one, div-div-eq-div-mul, pow-succ', one-le-pow, length, get_or, set, drop, length-set, get_or-append, get_or-eq_default, get_or-set_same, get_or-set_other, get_or-drop, get_or-append-add, set_out, eqb, eq-eqb, ne_eqb}
 use lib.Arith.{mod-mul}
 use Rattle.model.specs.Words.{le_from, word, put_le, put_word, byte_at}
 use Rattle.model.proofs.Tests.{by_eq, by_lt}
@@ -112,7 +112,7 @@ put_word_out v w x h = put_le_out 8 v (8 * w) x h
 pub word_append_left : (u v : List ℕ) (n w : ℕ) → length u ≡ 8 * n → w < n → word (u ++ v) w ≡ word u w
 unfolding word
 word_append_left u v n w h l =
-    le_from_same 8 (λ i. get_or (u ++ v) i 0) (λ i. get_or u i 0) (8 * w) (λ k g f. List·getD-append u v 0 k (omega arith))
+    le_from_same 8 (λ i. get_or (u ++ v) i 0) (λ i. get_or u i 0) (8 * w) (λ k g f. get_or-append u v 0 k (omega arith))
 
 pub word_append_right : (u v : List ℕ) (n w : ℕ) → length u ≡ 8 * n → word (u ++ v) (n + w) ≡ word v w
 unfolding word
@@ -124,7 +124,7 @@ word_append_right u v n w h =
 -- past the end a word is 0
 pub word_out : (v : List ℕ) (w : ℕ) → length v ≤ 8 * w → word v w ≡ 0
 unfolding word
-word_out v w h = le_from_same 8 (λ i. get_or v i 0) (λ i. 0) (8 * w) (λ k g f. List·getD-eq-default v 0 (omega arith))
+word_out v w h = le_from_same 8 (λ i. get_or v i 0) (λ i. 0) (8 * w) (λ k g f. get_or-eq_default v 0 (omega arith))
 
 -- a byte of the memory is the byte of the list
 pub byte_word : (v : List ℕ) (i : ℕ) → ((j : ℕ) → get_or v j 0 < 256) → byte_at (word v) i ≡ get_or v i 0

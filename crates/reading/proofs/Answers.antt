@@ -34,10 +34,10 @@ use Rattle.reading.specs.Folder.{folder_first}
 use Rattle.state.specs.Stated.{Stated}
 
 -- an element of a list that was mapped
-get_d_map : {A B : Type 0} (f : A → B) (l : List A) (i : ℕ) (a : A) (b : B) → i < length l → get_or (map f l) i b ≡ f (get_or l i a)
-get_d_map f [] i a b h = absurd (omega arith)
-get_d_map f (x ∷ l) zero a b h = refl
-get_d_map f (x ∷ l) (suc i) a b h = get_d_map f l i a b (omega arith)
+get_or_map : {A B : Type 0} (f : A → B) (l : List A) (i : ℕ) (a : A) (b : B) → i < length l → get_or (map f l) i b ≡ f (get_or l i a)
+get_or_map f [] i a b h = absurd (omega arith)
+get_or_map f (x ∷ l) zero a b h = refl
+get_or_map f (x ∷ l) (suc i) a b h = get_or_map f l i a b (omega arith)
 
 name_short : (m : Mem) (w : ℕ) → length (name_at m w) ≤ 32
 unfolding name_at name_field
@@ -185,7 +185,7 @@ module _ (v : List ℕ) (r : Answer) (places marks tree : List ℕ) (g : Gated v
         kth_is p q z =
             rw (kth_left, turned_count v d f ps w, lt-leb f.count k q, ← w.lists.names)
             (ap (λ x. done (name_at (word v) (8 * x))) (z ∙ sym (get_or-take f.count ps k 0 q))
-            ∙ ap (λ (x : List ℕ × ℕ). done x.0) (sym (get_d_map _ (take f.count ps) k 0 ([], 0) (in_take q))))
+            ∙ ap (λ (x : List ℕ × ℕ). done x.0) (sym (get_or_map _ (take f.count ps) k 0 ([], 0) (in_take q))))
 
         -- c and b are what `lay_name` answered and left
         pub kth_number : (p c : ℕ) → k < f.count → p ≡ get_or ps k 0 → c ≡ length (name_at (word v) (8 * p))

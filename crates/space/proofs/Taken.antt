@@ -4,7 +4,7 @@ use Rattle.model.specs.Lists.{lowest, lowest_few, has, or_else}
 use Rattle.model.specs.Layout.{in_pages}
 use Rattle.model.specs.Calls.{besides, lowest_run, lowest_pages}
 use Rattle.model.proofs.Tests.{by_bool, by_eq, no, and_left}
-use Rattle.model.proofs.Lists.{has_get_d, few_none, few_length, few_holds}
+use Rattle.model.proofs.Lists.{has_get_or, few_none, few_length, few_holds}
 use Rattle.model.proofs.Calls.DataPages.{pages_from}
 use Rattle.model.proofs.Frame.Placed.{in_bounds}
 use Rattle.words.proofs.Cond.{and_falseʳ}
@@ -109,7 +109,7 @@ module _ (b : List ℕ) (P N n from : ℕ) (os ps : List ℕ) (r : Bool) (low : 
   found_pages m few room h j l =
       let t = y.pages (not-false r h) in
       let d = length-take-le n ps (omega (arith, y.long)) in
-      let m = rw (get_or-take n ps j 0 (omega arith), t) at (has_get_d (take n ps) j (omega arith)) in
+      let m = rw (get_or-take n ps j 0 (omega arith), t) at (has_get_or (take n ps) j (omega arith)) in
       omega (arith, bound (get_or ps j 0) (few_holds f (P - from) from n (get_or ps j 0) m).0)
 
   pub take_lacks : not r ≡ true → PagesTaken b P N n os false ps b

@@ -1,6 +1,6 @@
 -- Stores added to a group: the pairs of words that it does not have stand between those of lower and those of higher words, and a word that
 -- it has already changes nothing. Then laws for callers: stores that are added one after the other.
-use Rattle.model.proofs.Prelude.{ℕ, suc, ◌+◌, ◌*◌, ◌-◌, ◌/◌, ◌≤◌, ◌<◌, ◌≡◌, refl, sym, ap, ◌∙◌, fun_ext, Bool, true, false, ◌&&◌, List, [], ◌∷◌, ◌++◌, Option, none, some, arith, zero-add, sub-zero, ltb, eqb, length, get_or, take, drop, length-append, length-drop, length-take-le, get_or-take, get_or-drop, List·getD-append, sets, get_or-append-add, lt-ltb, ltb-true, eq-eqb, eqb-true}
+use Rattle.model.proofs.Prelude.{ℕ, suc, ◌+◌, ◌*◌, ◌-◌, ◌/◌, ◌≤◌, ◌<◌, ◌≡◌, refl, sym, ap, ◌∙◌, fun_ext, Bool, true, false, ◌&&◌, List, [], ◌∷◌, ◌++◌, Option, none, some, arith, zero-add, sub-zero, ltb, eqb, length, get_or, take, drop, length-append, length-drop, length-take-le, get_or-take, get_or-drop, get_or-append, sets, get_or-append-add, lt-ltb, ltb-true, eq-eqb, eqb-true}
 use Rattle.model.specs.Stores.{Stores, one_word, run, first_of, both, only_if, listed}
 use Rattle.model.proofs.Crash.Stores.{one_here, one_other, first_none, Only}
 use Rattle.model.proofs.Tests.{by_eq, by_range, and_left, and_right, clash}
@@ -8,7 +8,7 @@ use Rattle.stores.specs.Emitted.{Emitted}
 use Rattle.stores.proofs.Emitting.{same_length, sets_append}
 use Rattle.stores.proofs.Listed.{listed_both, listed_same, listed_none}
 use Rattle.stores.specs.Added.{Group, Added, Adding, element, element_from, part, place_of}
-use Rattle.stores.proofs.Texts.{sets_over, get_d_sets, part_is, pairs, length_listed, index_in, place_is}
+use Rattle.stores.proofs.Texts.{sets_over, get_or_sets, part_is, pairs, length_listed, index_in, place_is}
 
 -- The text in two parts, below i and from i on.
 
@@ -89,12 +89,12 @@ module _ (l l₀ : List ℕ) (from end i W : ℕ) (s : Stores) (g : Group l₀ f
   read j q =
       let a = in_two s i W h in
       let n = length_listed s W 0 in
-      rw (g.list, ← a) (get_d_sets (listed s W 0) l₀ from j (omega (arith, g.end, same_length g, ends)) (omega (arith, g.end, ends)))
+      rw (g.list, ← a) (get_or_sets (listed s W 0) l₀ from j (omega (arith, g.end, same_length g, ends)) (omega (arith, g.end, ends)))
 
   read_low : (k : ℕ) → k < c → get_or l (from + 2 * k) 0 < i
   read_low k q =
       let e = index_in s i 0 k q in
-      rw (read (2 * k) (omega arith), List·getD-append (lower s i) (upper s i W) 0 (2 * k) (omega (arith, length_listed s i 0))) (omega arith)
+      rw (read (2 * k) (omega arith), get_or-append (lower s i) (upper s i W) 0 (2 * k) (omega (arith, length_listed s i 0))) (omega arith)
 
   pub read_up : (j : ℕ) → j < 2 * d → get_or l (from + 2 * c + j) 0 ≡ get_or (upper s i W) j 0
   read_up j q =

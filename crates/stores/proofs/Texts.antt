@@ -1,5 +1,5 @@
 -- Laws of lists that words are put into, and of the pairs of a group's text.
-use Rattle.model.proofs.Prelude.{ℕ, zero, suc, ◌+◌, ◌*◌, ◌-◌, ◌≤◌, ◌<◌, ◌≡◌, refl, sym, ap, ◌∙◌, false, ◌&&◌, List, [], ◌∷◌, ◌++◌, append_assoc, Option, none, some, arith, add-zero, zero-add, ltb, eqb, length, length-append, get_or, set, take, drop, List·getD-append, sets, sets-eq, set_comm, set-set, get_or-set_other, get_or-append-add, length-take-le, lt-ltb, le-ltb}
+use Rattle.model.proofs.Prelude.{ℕ, zero, suc, ◌+◌, ◌*◌, ◌-◌, ◌≤◌, ◌<◌, ◌≡◌, refl, sym, ap, ◌∙◌, false, ◌&&◌, List, [], ◌∷◌, ◌++◌, append_assoc, Option, none, some, arith, add-zero, zero-add, ltb, eqb, length, length-append, get_or, set, take, drop, get_or-append, sets, sets-eq, set_comm, set-set, get_or-set_other, get_or-append-add, length-take-le, lt-ltb, le-ltb}
 use Rattle.model.specs.Lists.{values_from}
 use Rattle.model.specs.Stores.{Stores, pair_of, listed}
 use Rattle.model.proofs.Tests.{by_eq}
@@ -40,12 +40,12 @@ pub pair_before : {l : List ℕ} {a : ℕ} {ys : List ℕ} {r : ℕ} {m : List �
     → Emitted l (a + 2 * 1) ys r m → Emitted m a (x ∷ y ∷ []) c p → Emitted l a (x ∷ y ∷ ys) r p
 pair_before e f = emitted_before e f f.end
 
-pub get_d_sets : (vs l : List ℕ) (i j : ℕ) → i + length vs ≤ length l → j < length vs → get_or (sets l i vs) (i + j) 0 ≡ get_or vs j 0
-get_d_sets vs l i j h g =
+pub get_or_sets : (vs l : List ℕ) (i j : ℕ) → i + length vs ≤ length l → j < length vs → get_or (sets l i vs) (i + j) 0 ≡ get_or vs j 0
+get_or_sets vs l i j h g =
     let e : length (take i l) ≡ i = length-take-le i l (omega arith) in
     let f : get_or (take i l ++ (vs ++ drop (i + length vs) l)) (length (take i l) + j) 0 ≡ get_or (vs ++ drop (i + length vs) l) j 0
     = get_or-append-add (take i l) (vs ++ drop (i + length vs) l) j 0 in
-    rw (sets-eq vs l i h, append_assoc) ((rw e at f) ∙ List·getD-append vs (drop (i + length vs) l) 0 j g)
+    rw (sets-eq vs l i h, append_assoc) ((rw e at f) ∙ get_or-append vs (drop (i + length vs) l) 0 j g)
 
 -- Parts of a list.
 

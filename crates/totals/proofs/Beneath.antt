@@ -10,7 +10,7 @@ use Rattle.model.specs.Tree.{Folders, name_count, parent_of, sum_over, name_coun
 use Rattle.model.specs.Accept.{is_valid, is_file, is_folder, folders_of, log_ok}
 use Rattle.model.specs.Public.{beneath, counts}
 use Rattle.model.proofs.Tests.{by_bool, by_lt, no, ands}
-use Rattle.model.proofs.Lists.{has_count, has_get_d}
+use Rattle.model.proofs.Lists.{has_count, has_get_or}
 use Rattle.model.proofs.Tree.{parent_holds, total_empty, total_same, total_small}
 use Rattle.model.proofs.Frame.View.{log_ok_lem}
 use Rattle.model.proofs.State.Bytes.{small_file}
@@ -123,7 +123,7 @@ module _ (v : List ℕ) where
       inside = omega (arith, f.count)
 
       leads : (1 ≤ k) × (k < N) × (is_valid u k ≡ true)
-      leads = rw k_is (child d (get_or (inodes_in v d) i 0) (has_get_d (inodes_in v d) i inside))
+      leads = rw k_is (child d (get_or (inodes_in v d) i 0) (has_get_or (inodes_in v d) i inside))
 
       pub leads_below : k < N
       leads_below = leads.1

@@ -1,6 +1,6 @@
 -- Write and set size do what they owe: their entries come to the file that POSIX says, on fresh pages, and the other inodes and the names
 -- are kept.
-use Rattle.model.proofs.Prelude.{◌≡◌, refl, sym, ◌∙◌, ℕ, ◌+◌, ◌-◌, ◌*◌, ◌/◌, ◌^◌, ◌≤◌, ◌<◌, max, true, false, not, ◌||◌, List, [], ◌∷◌, map, none, arith, length, get_or, length-append, length-map, List·getD-eq-default, leb, eqb, leb-false, ltb-false, eq-eqb, ne_eqb, not-false}
+use Rattle.model.proofs.Prelude.{◌≡◌, refl, sym, ◌∙◌, ℕ, ◌+◌, ◌-◌, ◌*◌, ◌/◌, ◌^◌, ◌≤◌, ◌<◌, max, true, false, not, ◌||◌, List, [], ◌∷◌, map, none, arith, length, get_or, length-append, length-map, get_or-eq_default, leb, eqb, leb-false, ltb-false, eq-eqb, ne_eqb, not-false}
 use Rattle.model.specs.Lists.{bit, all, has, count, distinct}
 use Rattle.model.specs.Stretches.{stretches}
 use Rattle.model.specs.Words.{Mem}
@@ -193,7 +193,7 @@ module _ (P N : ℕ) (m : Mem) (r : Ready P N m) where
         let few = (few_pages P N r.sizes).0 in
         by_lt i a.count
         (λ l. let b = free_bounds m P N _ (fresh_at m P N _ _ room.for_data i l) in omega arith)
-        (λ l. rw (List·getD-eq-default (data_pages m P (free m P N) a) 0 {n = i} (omega arith)) (omega arith))
+        (λ l. rw (get_or-eq_default (data_pages m P (free m P N) a) 0 {n = i} (omega arith)) (omega arith))
 
     some_stretch : 1 ≤ a.count → 0 < length (appended m P (free m P N) a)
     unfolding appended stretch_entries

@@ -6,7 +6,7 @@ use Rattle.model.specs.Layout.{in_pages}
 use Rattle.model.specs.Accept.{uses, free, free_count}
 use Rattle.model.specs.Calls.{Append, lay_pages, besides, data_pages, fresh_pages, fresh_log, pages_needed, pages_left}
 use Rattle.model.proofs.Tests.{by_bool, no, not_some, ands, cond_some}
-use Rattle.model.proofs.Lists.{few_holds, few_distinct, has_get_d, index_none, index_get_d, count_none, count_once}
+use Rattle.model.proofs.Lists.{few_holds, few_distinct, has_get_or, index_none, index_get_or, count_none, count_once}
 use Rattle.model.proofs.Frame.Placed.{in_bounds, zero_outside}
 use Rattle.model.proofs.Calls.DataPages.{pages_hold, pages_apart, enough_data, enough_log}
 
@@ -45,7 +45,7 @@ module _ (u : Mem) (P N : ℕ) where
 
   -- the i-th of fresh pages
   pub fresh_at : (ls : List ℕ) (n : ℕ) → Fresh u P N ls n → (i : ℕ) → i < n → free u P N (get_or ls i 0) ≡ true
-  fresh_at ls n f i l = f.unused (get_or ls i 0) (has_get_d ls i (omega (arith, f.number)))
+  fresh_at ls n f i l = f.unused (get_or ls i 0) (has_get_or ls i (omega (arith, f.number)))
 
   -- the pages of an append that has room, where f says which free pages may be taken
   pub room_in : (f : ℕ → Bool) → ((p : ℕ) → f p ≡ true → free u P N p ≡ true) → (a : Append)
@@ -125,7 +125,7 @@ module _ (ps : List ℕ) (f : ℕ → ℕ) where
       let p = get_or ps (j / 64) 0 in
       let a : (64 * p + j % 64) / 64 ≡ p = omega arith in
       let b : (64 * p + j % 64) % 64 ≡ j % 64 = omega arith in
-      let i : index_of p ps ≡ j / 64 = index_get_d ps (j / 64) d (omega arith) in
+      let i : index_of p ps ≡ j / 64 = index_get_or ps (j / 64) d (omega arith) in
       let q : 64 * (j / 64) + j % 64 ≡ j = omega arith in
       rw (a, b, i, lt-ltb (j / 64) (length ps) (omega arith), q)
 

@@ -1,5 +1,5 @@
 -- What is stored lies inside the volume and is a word of 64 bits: pages are below P, and each word of an entry is small.
-use Rattle.model.proofs.Prelude.{◌≡◌, ℕ, zero, suc, ◌+◌, ◌-◌, ◌*◌, ◌/◌, ◌%◌, ◌^◌, ◌≤◌, ◌<◌, Bool, true, false, cond, ◌&&◌, List, [], ◌∷◌, ◌++◌, none, some, arith, length, get_or, List·getD-eq-default, leb, ltb, eqb}
+use Rattle.model.proofs.Prelude.{◌≡◌, ℕ, zero, suc, ◌+◌, ◌-◌, ◌*◌, ◌/◌, ◌%◌, ◌^◌, ◌≤◌, ◌<◌, Bool, true, false, cond, ◌&&◌, List, [], ◌∷◌, ◌++◌, none, some, arith, length, get_or, get_or-eq_default, leb, ltb, eqb}
 use Rattle.model.specs.Lists.{all, index_of}
 use Rattle.model.specs.Stretches.{Stretch, stretches}
 use Rattle.model.specs.Words.{word}
@@ -9,7 +9,7 @@ use Rattle.model.specs.State.{File, Names}
 use Rattle.model.specs.Calls.{lay_entries, tail_after, stretch_entries, clean_file, clean_names}
 use Rattle.model.specs.Claim.{Bytes}
 use Rattle.model.proofs.Tests.{by_bool, by_lt, not_some, cond_some}
-use Rattle.model.proofs.Lists.{has_get_d, all_has}
+use Rattle.model.proofs.Lists.{has_get_or, all_has}
 use Rattle.model.proofs.Words.{word_lt}
 use Rattle.model.proofs.Log.Decode.{name_short}
 use Rattle.model.proofs.Log.Live.{lay_in}
@@ -84,8 +84,8 @@ one_of_two false b false p q x n e h g = not_some x e
 module _ (P N : ℕ) (few : P ≤ 4096) (ps : List ℕ) (in_all : all (in_pages P N) ps ≡ true) where
   pub page_small : (j : ℕ) → get_or ps j 0 ≤ P
   page_small j =
-      by_lt j (length ps) (λ l. let b = in_bounds P N (get_or ps j 0) (all_has (in_pages P N) (get_or ps j 0) ps in_all (has_get_d ps j l)) in omega arith)
-      (λ l. rw (List·getD-eq-default ps 0 {n = j} l) (omega arith))
+      by_lt j (length ps) (λ l. let b = in_bounds P N (get_or ps j 0) (all_has (in_pages P N) (get_or ps j 0) ps in_all (has_get_or ps j l)) in omega arith)
+      (λ l. rw (get_or-eq_default ps 0 {n = j} l) (omega arith))
 
   pub tail_small : (i n : ℕ) → tail_after ps i n < 2 ^ 64
   unfolding tail_after

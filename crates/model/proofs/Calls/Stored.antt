@@ -11,7 +11,7 @@ use Rattle.model.specs.Accept.{is_valid, folders_of, uses_by, uses, free, type_o
 use Rattle.model.specs.Stores.{Stores, one_word, both, only_if, over}
 use Rattle.model.specs.Calls.{Change, Append, lay_entries, lay_pages, pages_for, tail_after, tail_pages, targets, data_pages, appended, old_pages, old_slots, fresh_pages, fresh_log, prepared, new_tail, own_changes}
 use Rattle.model.proofs.Tests.{by_bool, by_eq, no, clash, not_true_false, ands}
-use Rattle.model.proofs.Lists.{sum_below_one, has_cons, has_append, has_get_d, all_has, all_by}
+use Rattle.model.proofs.Lists.{sum_below_one, has_cons, has_append, has_get_or, all_has, all_by}
 use Rattle.model.proofs.Log.Decode.{decode}
 use Rattle.model.proofs.Log.Pages.{Reads, SameLive}
 use Rattle.model.proofs.Log.Live.{lay_page, lay_in}
@@ -313,7 +313,7 @@ module _ {m : Mem} {P N : ℕ} {f : ℕ → Bool} {a : Append} {s : Stores} {cs 
       let z = (sizes_whole P N sizes).0 in
       let g = c.below in
       let d : w / 64 ≡ p = omega arith in
-      let h : has (w / 64) ds ≡ true = rw d (has_get_d ds (j / 64) (omega arith)) in
+      let h : has (w / 64) ds ≡ true = rw d (has_get_or ds (j / 64) (omega arith)) in
       high_same did w (omega arith)
       ∙ over_some s m w (a.words j)
       (c.stores w (a.words j) (rw (

@@ -5,7 +5,7 @@ use Rattle.model.specs.Lists.{all, has, distinct}
 use Rattle.model.specs.Layout.{footer, in_pages}
 use Rattle.model.specs.Log.{walk, onto, slots, entry_words}
 use Rattle.model.proofs.Tests.{not_some}
-use Rattle.model.proofs.Lists.{has_head, has_tail, has_get_d, all_cons, distinct_cons, apart}
+use Rattle.model.proofs.Lists.{has_head, has_tail, has_get_or, all_cons, distinct_cons, apart}
 
 -- linked pages that end in q, where q stands at the end alone
 abbrev pub Chain : Mem → ℕ → ℕ → ℕ → List ℕ → Type 0
@@ -62,7 +62,7 @@ linked_chain m P N p (r ∷ ps) a d l =
     let b = all_cons (in_pages P N) p (r ∷ ps) a in
     let e = distinct_cons p (r ∷ ps) d in
     let z = get_or (r ∷ ps) (length ps) 0 in
-    (b.0, (λ s. apart z p (r ∷ ps) e.0 (has_get_d (r ∷ ps) (length ps) (omega arith)) (sym s)), l 0 (omega arith), linked_chain m P N r ps b.1 e.1 (λ j h. l (suc j) (omega arith)))
+    (b.0, (λ s. apart z p (r ∷ ps) e.0 (has_get_or (r ∷ ps) (length ps) (omega arith)) (sym s)), l 0 (omega arith), linked_chain m P N r ps b.1 e.1 (λ j h. l (suc j) (omega arith)))
 
 pub chain_last : (m : Mem) (P N q : ℕ) (ps : List ℕ) → Chain m P N q ps → (has q ps ≡ true) × (in_pages P N q ≡ true)
 chain_last m P N q [] c = absurd c

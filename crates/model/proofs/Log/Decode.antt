@@ -1,11 +1,11 @@
 -- Entries as words, read back: an entry depends on its eight words alone, and the words of an entry mean that entry.
-use Rattle.model.proofs.Prelude.{◌≡◌, refl, sym, ◌∙◌, ap, ℕ, zero, suc, ◌+◌, ◌-◌, ◌*◌, ◌/◌, ◌%◌, ◌≤◌, ◌<◌, true, List, arith, add-zero, add_assoc, length, get_or, take, replicate, length-append, length-replicate, length-take, get_or-replicate, List·getD-eq-default, ext_get_or, get_or-take, take-append_seam, drop-append_seam, lt-ltb, le-leb, leb-true}
+use Rattle.model.proofs.Prelude.{◌≡◌, refl, sym, ◌∙◌, ap, ℕ, zero, suc, ◌+◌, ◌-◌, ◌*◌, ◌/◌, ◌%◌, ◌≤◌, ◌<◌, true, List, arith, add-zero, add_assoc, length, get_or, take, replicate, length-append, length-replicate, length-take, get_or-replicate, get_or-eq_default, ext_get_or, get_or-take, take-append_seam, drop-append_seam, lt-ltb, le-leb, leb-true}
 use Rattle.model.specs.Lists.{values_from}
 use Rattle.model.specs.Words.{Mem, word, byte_at}
 use Rattle.model.specs.Entry.{Entry, write_entry, size_entry, add_entry, remove_entry, padded, name_field, entry_at, name_ok, is_zero, field_ok, file_entry_ok, name_entry_ok, write_words, size_words, name_words, add_words, remove_words}
 use Rattle.model.specs.Claim.{Bytes}
 use Rattle.model.proofs.Tests.{by_lt, ands}
-use Rattle.model.proofs.Lists.{length_values, values_at, get_d_left, get_d_right, all_replicate}
+use Rattle.model.proofs.Lists.{length_values, values_at, get_or_left, get_or_right, all_replicate}
 use Rattle.model.proofs.Words.{byte_word}
 
 -- the bytes of a memory depend on its words
@@ -59,11 +59,11 @@ length_padded n h = rw (length-append, length-replicate) (omega arith)
 pub padded_at : (n : List ℕ) (i : ℕ) → get_or (padded n) i 0 ≡ get_or n i 0
 unfolding padded
 padded_at n i =
-    by_lt i (length n) (λ h. get_d_left 0 n (replicate (32 - length n) 0) i h)
-    (λ h. get_d_right 0 n (replicate (32 - length n) 0) i h ∙ by_lt (i - length n) (32 - length n)
+    by_lt i (length n) (λ h. get_or_left 0 n (replicate (32 - length n) 0) i h)
+    (λ h. get_or_right 0 n (replicate (32 - length n) 0) i h ∙ by_lt (i - length n) (32 - length n)
     (λ l. get_or-replicate (32 - length n) (i - length n) 0 0 l)
-    (λ l. List·getD-eq-default (replicate (32 - length n) 0) 0 (rw length-replicate l))
-    ∙ sym (List·getD-eq-default n 0 h))
+    (λ l. get_or-eq_default (replicate (32 - length n) 0) 0 (rw length-replicate l))
+    ∙ sym (get_or-eq_default n 0 h))
 
 pub take_padded : (n : List ℕ) → take (length n) (padded n) ≡ n
 unfolding padded
@@ -132,7 +132,7 @@ size_ok P N s h = le-leb s 65536 h
 -- a name read from memory is bytes
 pub bytes_take : (n : ℕ) (l : List ℕ) → Bytes l → Bytes (take n l)
 bytes_take n l h i =
-    by_lt i n (λ g. rw (get_or-take n l i 0 g) (h i)) (λ g. rw (List·getD-eq-default (take n l) 0 (length_take_at n l i g)) (omega arith))
+    by_lt i n (λ g. rw (get_or-take n l i 0 g) (h i)) (λ g. rw (get_or-eq_default (take n l) 0 (length_take_at n l i g)) (omega arith))
   where
     length_take_at : (n : ℕ) (l : List ℕ) (i : ℕ) → n ≤ i → length (take n l) ≤ i
     length_take_at n l i g = rw length-take (omega arith)
@@ -141,4 +141,4 @@ pub bytes_field : (m : Mem) (w : ℕ) → Bytes (name_field m w)
 unfolding name_field byte_at
 bytes_field m w i =
     by_lt i 32 (λ l. rw (values_at (byte_at m) (8 * w) 32 i l) (omega arith))
-    (λ l. rw (List·getD-eq-default (values_from (byte_at m) (8 * w) 32) 0 {n = i} (rw length_values l)) (omega arith))
+    (λ l. rw (get_or-eq_default (values_from (byte_at m) (8 * w) 32) 0 {n = i} (rw length_values l)) (omega arith))

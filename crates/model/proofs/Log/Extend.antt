@@ -9,7 +9,7 @@ use Rattle.model.specs.Entry.{Entry, entry_at}
 use Rattle.model.specs.Log.{tail_ok, pages_of, log_pages, pages, tail_slots, slots, entry_words, entries}
 use Rattle.model.specs.Calls.{lay_entries, tail_after, pages_for, tail_pages}
 use Rattle.model.proofs.Tests.{by_eq, no, ands}
-use Rattle.model.proofs.Lists.{all_below_at, all_has, has_get_d, has_cons, apart, no_length}
+use Rattle.model.proofs.Lists.{all_below_at, all_has, has_get_or, has_cons, apart, no_length}
 use Rattle.model.proofs.Log.Chain.{Chain, chain_to, chain_then, linked_chain, chain_last, chain_words}
 use Rattle.model.proofs.Log.Slots.{slot_word, placed, placed_split, words_placed, lay_link, lay_slot, first_page}
 use Rattle.model.proofs.Log.Decode.{decode, entry_decode}
@@ -173,7 +173,7 @@ module _ (u u' : Mem) (P N k : ℕ) (ls : List ℕ) (es : List (List ℕ)) where
       } in
       let b = tail_laid laid (u' (tail_word k)) (rw (tail_pages, ne_eqb t 0 z) at a.tail) in
       let far : (x : ℕ) → has x (p ∷ os) ≡ true → (x ≡ q → ⊥) → x ≡ q' → ⊥ =
-      λ x h g y. ⊎_elim (λ v. g (y ∙ v)) (λ v. apart q' x ls (f.new x h) v (sym y)) (has_cons q' q ls (has_get_d (q ∷ ls) (length ls) (omega arith))) in
+      λ x h g y. ⊎_elim (λ v. g (y ∙ v)) (λ v. apart q' x ls (f.new x h) v (sym y)) (has_cons q' q ls (has_get_or (q ∷ ls) (length ls) (omega arith))) in
       let footers = live_footers u u' P N q i (p ∷ os) c.0 a.live in
       let chain = chain_then u u' P N q q' (p ∷ os) ls c.0 (λ x h g. (footers x h g, far x h g)) (chain_laid laid) in
       let once = (log_distinct u P N k (p ∷ os) f.was).0 in

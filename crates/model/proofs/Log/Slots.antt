@@ -4,7 +4,7 @@ use Rattle.model.specs.Lists.{distinct}
 use Rattle.model.specs.Layout.{footer}
 use Rattle.model.specs.Log.{slots, entry_words}
 use Rattle.model.specs.Calls.{lay_entries}
-use Rattle.model.proofs.Lists.{index_get_d}
+use Rattle.model.proofs.Lists.{index_get_or}
 
 -- the first word of slot s of the pages ps, seven slots a page
 unfoldable pub slot_word : List ℕ → ℕ → ℕ
@@ -71,7 +71,7 @@ module _ (ps : List ℕ) (i : ℕ) (es : List (List ℕ)) (d : distinct ps ≡ t
       let p = get_or ps j 0 in
       let a : (64 * p + 56) / 64 ≡ p = omega arith in
       let b : (64 * p + 56) % 64 ≡ 56 = omega arith in
-      rw (lay_entries, a, b, index_get_d ps j d (omega arith), lt-ltb j (length ps) (omega arith), add-one j, lt-ltb (suc j) (length ps) h)
+      rw (lay_entries, a, b, index_get_or ps j d (omega arith), lt-ltb j (length ps) (omega arith), add-one j, lt-ltb (suc j) (length ps) h)
 
   pub lay_slot : (s o : ℕ) → s / 7 < length ps → i ≤ s → s < i + length es → o < 8
       → lay_entries ps i es (slot_word ps s + o) ≡ some (get_or (get_or es (s - i) []) o 0)
@@ -82,4 +82,4 @@ module _ (ps : List ℕ) (i : ℕ) (es : List (List ℕ)) (d : distinct ps ≡ t
       let b : (64 * p + 8 * (s % 7) + o) % 64 ≡ 8 * (s % 7) + o = omega arith in
       let c : 7 * (s / 7) + (8 * (s % 7) + o) / 8 ≡ s = omega arith in
       let f : (8 * (s % 7) + o) % 8 ≡ o = omega arith in
-      rw (lay_entries, a, b, index_get_d ps (s / 7) d g, c, f, lt-ltb (s / 7) (length ps) g, ne_eqb (8 * (s % 7) + o) 56 (omega arith), lt-ltb (8 * (s % 7) + o) 56 (omega arith), le-leb i s l, lt-ltb s (i + length es) h)
+      rw (lay_entries, a, b, index_get_or ps (s / 7) d g, c, f, lt-ltb (s / 7) (length ps) g, ne_eqb (8 * (s % 7) + o) 56 (omega arith), lt-ltb (8 * (s % 7) + o) 56 (omega arith), le-leb i s l, lt-ltb s (i + length es) h)

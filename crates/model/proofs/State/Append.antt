@@ -1,6 +1,6 @@
 -- A file after an append to its log: its fresh data pages are mapped, their bytes are those of the words stored there, and all its other bytes
 -- stay.
-use Rattle.model.proofs.Prelude.{◌≡◌, ◌∙◌, ap, inl, inr, ℕ, ◌+◌, ◌-◌, ◌*◌, ◌/◌, ◌%◌, ◌≤◌, ◌<◌, true, cond, List, map, map-append, ◌++◌, arith, length, get_or, List·getD-eq-default, eqb, ne_eqb}
+use Rattle.model.proofs.Prelude.{◌≡◌, ◌∙◌, ap, inl, inr, ℕ, ◌+◌, ◌-◌, ◌*◌, ◌/◌, ◌%◌, ◌≤◌, ◌<◌, true, cond, List, map, map-append, ◌++◌, arith, length, get_or, get_or-eq_default, eqb, ne_eqb}
 use Rattle.model.specs.Lists.{all, foldl}
 use Rattle.model.specs.Stretches.{stretches}
 use Rattle.model.specs.Words.{Mem, le_from, byte_at}
@@ -86,4 +86,4 @@ pub data_fits : (P N a c : ℕ) (ds : List ℕ) (z : ℕ) → length ds ≡ c �
     → a + c ≤ 128 → z ≤ 65536 → all (file_entry_ok P N) (map decode (stretch_entries z (stretches (λ i. get_or ds (i - a) 0) c a))) ≡ true
 data_fits P N a c ds z n places short small =
     stretches_fit P N z small (λ i. get_or ds (i - a) 0) c a short
-    (λ j. by_lt (j - a) c (λ l. inr (places (j - a) l)) (λ l. inl (List·getD-eq-default ds 0 {n = j - a} (omega arith))))
+    (λ j. by_lt (j - a) c (λ l. inr (places (j - a) l)) (λ l. inl (get_or-eq_default ds 0 {n = j - a} (omega arith))))

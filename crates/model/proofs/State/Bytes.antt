@@ -1,5 +1,5 @@
 -- The bytes of a file: their count and each of them, where the file's end is as accepted; and those of a list cut, lengthened or laid over.
-use Rattle.model.proofs.Prelude.{◌≡◌, sym, ◌∙◌, ap, ⊎_elim, ℕ, ◌+◌, ◌-◌, ◌*◌, ◌/◌, ◌%◌, ◌≤◌, ◌<◌, max, true, false, cond, ◌||◌, or-true, List, ◌++◌, append-nil, append_assoc, arith, sub_self, length, take, get_or, replicate, length-append, length-take, length-drop, length-replicate, get_or-replicate, List·getD-eq-default, ext_get_or, get_or-take, get_or-drop, take-length, ltb, eqb, leb-true, ltb-true, eqb-true, lt-ltb, le-ltb, eq-eqb, ne_eqb}
+use Rattle.model.proofs.Prelude.{◌≡◌, sym, ◌∙◌, ap, ⊎_elim, ℕ, ◌+◌, ◌-◌, ◌*◌, ◌/◌, ◌%◌, ◌≤◌, ◌<◌, max, true, false, cond, ◌||◌, or-true, List, ◌++◌, append-nil, append_assoc, arith, sub_self, length, take, get_or, replicate, length-append, length-take, length-drop, length-replicate, get_or-replicate, get_or-eq_default, ext_get_or, get_or-take, get_or-drop, take-length, ltb, eqb, leb-true, ltb-true, eqb-true, lt-ltb, le-ltb, eq-eqb, ne_eqb}
 use Rattle.model.specs.Lists.{all_below, all, foldl}
 use Rattle.model.specs.Words.{Mem, byte_at}
 use Rattle.model.specs.Entry.{Entry, write_entry, size_entry, add_entry, remove_entry, no_entry, file_entry_ok}
@@ -7,7 +7,7 @@ use Rattle.model.specs.State.{File, empty_file, file_step, file_byte, bytes_of}
 use Rattle.model.specs.Accept.{end_ok}
 use Rattle.model.specs.FileMap.{sized, laid_over}
 use Rattle.model.proofs.Tests.{by_bool, by_eq, by_lt, ands, within, inside, outside}
-use Rattle.model.proofs.Lists.{all_below_at, all_below_by, length_values, values_at, values_same, get_d_left, get_d_right, fold_keeps}
+use Rattle.model.proofs.Lists.{all_below_at, all_below_by, length_values, values_at, values_same, get_or_left, get_or_right, fold_keeps}
 use Rattle.model.proofs.Frame.Placed.{Placed, SamePages, file_byte_same}
 
 -- Lists of bytes.
@@ -16,15 +16,15 @@ pub length_sized : (s : ℕ) (l : List ℕ) → length (sized s l) ≡ s
 unfolding sized
 length_sized s l = simp (length-append, length-take, length-replicate) (omega arith)
 
-pub get_d_sized : (s : ℕ) (l : List ℕ) (i : ℕ) → get_or (sized s l) i 0 ≡ cond (ltb i s) (get_or l i 0) 0
+pub get_or_sized : (s : ℕ) (l : List ℕ) (i : ℕ) → get_or (sized s l) i 0 ≡ cond (ltb i s) (get_or l i 0) 0
 unfolding sized
-get_d_sized s l i =
+get_or_sized s l i =
     by_lt i s
     (λ h. rw (lt-ltb i s h) (by_lt i (length l)
-    (λ g. get_d_left 0 (take s l) _ i (rw length-take (omega arith)) ∙ get_or-take s l i 0 h)
-    (λ g. get_d_right 0 (take s l) _ i (rw length-take (omega arith)) ∙ rw length-take (get_or-replicate (s - length l) _ 0 0 (omega arith))
-    ∙ sym (List·getD-eq-default l 0 g))))
-    (λ h. rw (le-ltb i s h) (List·getD-eq-default (take s l ++ replicate (s - length l) 0) 0
+    (λ g. get_or_left 0 (take s l) _ i (rw length-take (omega arith)) ∙ get_or-take s l i 0 h)
+    (λ g. get_or_right 0 (take s l) _ i (rw length-take (omega arith)) ∙ rw length-take (get_or-replicate (s - length l) _ 0 0 (omega arith))
+    ∙ sym (get_or-eq_default l 0 g))))
+    (λ h. rw (le-ltb i s h) (get_or-eq_default (take s l ++ replicate (s - length l) 0) 0
     (rw (length-append, length-take, length-replicate) (omega arith))))
 
 pub sized_same : (l : List ℕ) (s : ℕ) → length l ≡ s → sized s l ≡ l
@@ -35,15 +35,15 @@ pub length_laid_over : (l : List ℕ) (o : ℕ) (bs : List ℕ) → length (laid
 unfolding laid_over
 length_laid_over l o bs = rw (length-append, length-append, length_sized, length-drop) (omega arith)
 
-pub get_d_laid_over : (l : List ℕ) (o : ℕ) (bs : List ℕ) (i : ℕ)
+pub get_or_laid_over : (l : List ℕ) (o : ℕ) (bs : List ℕ) (i : ℕ)
     → get_or (laid_over l o bs) i 0 ≡ cond (within o (o + length bs) i) (get_or bs (i - o) 0) (get_or l i 0)
 unfolding laid_over
-get_d_laid_over l o bs i =
+get_or_laid_over l o bs i =
     rw append_assoc (by_lt i o
-    (λ h. rw (outside o (o + length bs) i (λ p q. omega arith)) (get_d_left 0 (sized o l) _ i (rw length_sized h) ∙ get_d_sized o l i ∙ rw (lt-ltb i o h)))
-    (λ h. get_d_right 0 (sized o l) _ i (rw length_sized h) ∙ rw length_sized (by_lt i (o + length bs)
-    (λ g. rw (inside o (o + length bs) i h g) (get_d_left 0 bs _ (i - o) (omega arith)))
-    (λ g. rw (outside o (o + length bs) i (λ p q. omega arith)) (get_d_right 0 bs _ (i - o) (omega arith)
+    (λ h. rw (outside o (o + length bs) i (λ p q. omega arith)) (get_or_left 0 (sized o l) _ i (rw length_sized h) ∙ get_or_sized o l i ∙ rw (lt-ltb i o h)))
+    (λ h. get_or_right 0 (sized o l) _ i (rw length_sized h) ∙ rw length_sized (by_lt i (o + length bs)
+    (λ g. rw (inside o (o + length bs) i h g) (get_or_left 0 bs _ (i - o) (omega arith)))
+    (λ g. rw (outside o (o + length bs) i (λ p q. omega arith)) (get_or_right 0 bs _ (i - o) (omega arith)
     ∙ get_or-drop (o + length bs) l (i - o - length bs) 0 ∙ ap (λ (k : ℕ). get_or l k 0) (omega arith))))))
 
 -- Bytes of a file.
@@ -99,15 +99,15 @@ module _ (u : Mem) (f : File) where
   unfolding bytes_of
   length_bytes = length_values (file_byte u f) 0 f.size
 
-  pub get_d_bytes : Ended u f → (x : ℕ) → get_or (bytes_of u f) x 0 ≡ file_byte u f x
+  pub get_or_bytes : Ended u f → (x : ℕ) → get_or (bytes_of u f) x 0 ≡ file_byte u f x
   unfolding bytes_of
-  get_d_bytes e x =
+  get_or_bytes e x =
       by_lt x f.size (λ h. values_at (file_byte u f) 0 f.size x h ∙ ap (file_byte u f) (omega arith))
-      (λ h. List·getD-eq-default (bytes_of u f) 0 {n = x} (rw length_bytes h) ∙ sym (e.zeros x h))
+      (λ h. get_or-eq_default (bytes_of u f) 0 {n = x} (rw length_bytes h) ∙ sym (e.zeros x h))
 
   -- the bytes of a file are a list, if it has their count and each of them
   pub bytes_are_lem : Ended u f → (l : List ℕ) → length l ≡ f.size → ((x : ℕ) → file_byte u f x ≡ get_or l x 0) → bytes_of u f ≡ l
-  bytes_are_lem e l h g = ext_get_or 0 (bytes_of u f) l (length_bytes ∙ sym h) (λ x _. get_d_bytes e x ∙ g x)
+  bytes_are_lem e l h g = ext_get_or 0 (bytes_of u f) l (length_bytes ∙ sym h) (λ x _. get_or_bytes e x ∙ g x)
 
 -- a file whose data pages have the words that they had
 module _ (u u' : Mem) (f : File) (kept : SamePages u u' f) where

@@ -10,7 +10,7 @@ use Rattle.model.specs.Calls.{cuts_page, kept_byte, size_append}
 use Rattle.model.proofs.Tests.{by_bool, by_eq, by_lt, no, ands, by_range}
 use Rattle.model.proofs.Log.Decode.{decode, decode_size, size_ok}
 use Rattle.model.proofs.Frame.Placed.{Placed, SamePages}
-use Rattle.model.proofs.State.Bytes.{length_sized, get_d_sized, file_byte_lt, unmapped, Ended, ended_end, get_d_bytes, bytes_are_lem, placed_ended}
+use Rattle.model.proofs.State.Bytes.{length_sized, get_or_sized, file_byte_lt, unmapped, Ended, ended_end, get_or_bytes, bytes_are_lem, placed_ended}
 use Rattle.model.proofs.State.Mapped.{mapped_data, mapped_size}
 use Rattle.model.proofs.State.Append.{Filled, file_after, entries_on, mapping, mapping_byte, after_append, data_fits}
 
@@ -126,4 +126,4 @@ module _ (u : Mem) (P N k s : ℕ) where
       unfolding kept_byte
       resize_bytes =
           rw resize_file (bytes_are_lem u' _ resize_ended _ (length_sized s (bytes_of u old) ∙ sym resize_size)
-          (λ x. resize_byte x ∙ rw (get_d_sized, get_d_bytes u old was_ended x)))
+          (λ x. resize_byte x ∙ rw (get_or_sized, get_or_bytes u old was_ended x)))

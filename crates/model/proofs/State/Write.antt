@@ -11,7 +11,7 @@ use Rattle.model.specs.Claim.{Bytes}
 use Rattle.model.proofs.Tests.{by_bool, within, outside, by_range}
 use Rattle.model.proofs.Log.Decode.{decode}
 use Rattle.model.proofs.Frame.Placed.{Placed}
-use Rattle.model.proofs.State.Bytes.{length_laid_over, get_d_laid_over, file_byte_lt, Ended, ended_end, length_bytes, get_d_bytes, bytes_are_lem, placed_ended}
+use Rattle.model.proofs.State.Bytes.{length_laid_over, get_or_laid_over, file_byte_lt, Ended, ended_end, length_bytes, get_or_bytes, bytes_are_lem, placed_ended}
 use Rattle.model.proofs.State.Mapped.{mapped_data}
 use Rattle.model.proofs.State.Append.{Filled, file_after, entries_on, mapping, mapping_byte, after_append, data_fits}
 
@@ -86,4 +86,4 @@ module _ (u : Mem) (P N k o : ℕ) (bs : List ℕ) where
       unfolding written_byte
       write_bytes_lem =
           rw write_file (bytes_are_lem u' _ write_ended _ (length_laid_over (bytes_of u old) o bs ∙ rw (length_bytes, write_size))
-          (λ x. write_byte x ∙ rw (get_d_laid_over, get_d_bytes u old was_ended x)))
+          (λ x. write_byte x ∙ rw (get_or_laid_over, get_or_bytes u old was_ended x)))
