@@ -2,7 +2,7 @@
 //! the reference: the same answer and the same pairs, with lists of every length up to two more than needed, on volumes that random calls
 //! leave. tests/unproved compiles it over the calls without their proofs.
 
-use answer::{code, Answer};
+use answer::{code, done_code, Refusal};
 use gaps::Gap;
 
 /// What stands in a list before a call.
@@ -19,10 +19,10 @@ impl Random {
 }
 
 /// Makes a call that fills a store list, and carries the list out.
-fn step(volume: &mut [u8], call: impl Fn(&[u8], &mut [u64]) -> Answer) {
+fn step(volume: &mut [u8], call: impl Fn(&[u8], &mut [u64]) -> Result<u64, Refusal>) {
     let mut list = vec![0; 4096];
     let count = code(call(volume, &mut list));
-    assert!(count <= 0 || code(volume::carry_out(volume, &list, count as u64)) == 0);
+    assert!(count <= 0 || done_code(volume::carry_out(volume, &list, count as u64)) == 0);
 }
 
 /// Asks for the gaps in lists of `pairs` structs; gives the answer and the list.
@@ -53,7 +53,7 @@ fn main() {
     for pages in [16, 20, 64, 200, 512] {
         for _ in 0..6 {
             let mut volume = vec![0; pages * 512];
-            assert_eq!(code(volume::format(&mut volume, pages as u64, 16)), 0);
+            assert_eq!(done_code(volume::format(&mut volume, pages as u64, 16)), 0);
             for _ in 0..120 {
                 let (name, inode) = ([65 + random.below(12) as u8], random.below(16));
                 let (folder, other) = (random.below(4), random.below(4));

@@ -1,16 +1,13 @@
-// What the calls of the file store answer, and the number that C gets for it.
+// What the calls of the file store answer, and the number that C gets for it: a call answers `Ok` where it is done, with its number, if
+// it has one to answer, and else `Err` with its refusal.
 #![tactic(auto)]
 
-ghost use Rattle.std.specs.Prelude.{◌≡◌, ◌≤◌};
-ghost use Rattle.answer.specs.Meaning.{meaning, refusal_of, code_of};
+ghost use Rattle.std.specs.Prelude.{◌≡◌, ◌≤◌, pos, neg_ℤ};
+ghost use Rattle.answer.specs.Meaning.{meaning, done_meaning, number_of, code_of};
 
-// What a call answers. specs/Meaning.antt gives document 01's number and value of each case.
-#[derive(Clone, Copy)]
-pub enum Answer {
-    // The call is done, and has no number to answer: format and carry out.
-    Done,
-    // The call is done, and this is its number: the count of words filled, an inode, a size, and so on.
-    Number(u64),
+// Why a call refuses. specs/Meaning.antt gives document 01's number of each.
+#[derive(Clone, Copy, Debug, PartialEq, Eq)]
+pub enum Refusal {
     // 1: the store list to be filled has under 4,096 words, or the name buffer under 32 bytes.
     ShortMemory,
     // 2: the slice's length, word 0, 1 or 2, or format's sizes break their limits.
@@ -50,47 +47,62 @@ pub enum Answer {
     IntoItself,
 }
 
-// Answers the number of a refusal, by "What the screen says", and 0 of an answer that is none.
-// Example: refusal(Answer::Damaged) is 3, and refusal(Answer::Number(514)) is 0.
-pub fn refusal(answer: Answer) -> u64
-    ensures { (result ≡ refusal_of (meaning answer)) × (result ≤ 18) }
-{
-    match answer {
-        Answer::Done => 0,
-        Answer::Number(_) => 0,
-        Answer::ShortMemory => 1,
-        Answer::NoVolume => 2,
-        Answer::Damaged => 3,
-        Answer::JournalOpen => 4,
-        Answer::BadName => 5,
-        Answer::NotThere => 6,
-        Answer::Taken => 7,
-        Answer::LongWrite => 8,
-        Answer::PastTheEnd => 9,
-        Answer::NoInode => 10,
-        Answer::DirectoryFull => 11,
-        Answer::NoSpace => 12,
-        Answer::BadList => 13,
-        Answer::TooManyGaps => 14,
-        Answer::LastPage => 15,
-        Answer::WrongType => 16,
-        Answer::NotEmpty => 17,
-        Answer::IntoItself => 18,
+impl Refusal {
+    // Answers the number of a refusal, by "What the screen says".
+    // Example: Refusal::Damaged.number() is 3.
+    pub fn number(self) -> u64
+        ensures { (result ≡ number_of self) × (result ≤ 18) }
+    {
+        match self {
+            Refusal::ShortMemory => 1,
+            Refusal::NoVolume => 2,
+            Refusal::Damaged => 3,
+            Refusal::JournalOpen => 4,
+            Refusal::BadName => 5,
+            Refusal::NotThere => 6,
+            Refusal::Taken => 7,
+            Refusal::LongWrite => 8,
+            Refusal::PastTheEnd => 9,
+            Refusal::NoInode => 10,
+            Refusal::DirectoryFull => 11,
+            Refusal::NoSpace => 12,
+            Refusal::BadList => 13,
+            Refusal::TooManyGaps => 14,
+            Refusal::LastPage => 15,
+            Refusal::WrongType => 16,
+            Refusal::NotEmpty => 17,
+            Refusal::IntoItself => 18,
+        }
+    }
+
+    // Answers minus the number of a refusal.
+    // Example: Refusal::Damaged.code() is -3.
+    fn code(self) -> i64
+        ensures { result ≡ neg_ℤ (pos (number_of self)) }
+    {
+        -(self.number() as i64)
     }
 }
 
-// Answers an answer as one number, as the C firmware gets it: the answer's number (0 where it has none), or minus the
-// number of the refusal. A number too large for an i64, which no call answers, comes out as the largest i64.
-// Example: code(Answer::Number(514)) is 514, code(Answer::Done) is 0 and code(Answer::NoSpace) is -12.
-pub fn code(answer: Answer) -> i64
+// Answers what a call that answers a number answers as one number, as the C firmware gets it: the call's number, or minus the number of
+// the refusal. A number too large for an i64, which no call answers, comes out as the largest i64.
+// Example: code(Ok(514)) is 514, and code(Err(Refusal::NoSpace)) is -12.
+pub fn code(answer: Result<u64, Refusal>) -> i64
     ensures { result ≡ code_of (meaning answer) }
 {
-    let Answer::Number(x) = answer else {
-        return 0 - (refusal(answer) as i64);
-    };
-    if x < 9223372036854775808 {
-        x as i64
-    } else {
-        9223372036854775807
+    match answer {
+        Ok(x) => i64::try_from(x).unwrap_or(i64::MAX),
+        Err(refusal) => refusal.code(),
+    }
+}
+
+// Answers the same of a call that answers no number, which is 0 where it is done.
+// Example: done_code(Ok(())) is 0, and done_code(Err(Refusal::BadList)) is -13.
+pub fn done_code(answer: Result<(), Refusal>) -> i64
+    ensures { result ≡ code_of (done_meaning answer) }
+{
+    match answer {
+        Ok(()) => 0,
+        Err(refusal) => refusal.code(),
     }
 }

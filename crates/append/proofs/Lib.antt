@@ -1,8 +1,7 @@
--- Taking has the laws of the pages taken, Judging those of room, Parts those of the first group's parts and of the words that commit it, Logs
+-- Taking has the laws of the pages taken, Parts those of the first group's parts and of the words that commit it, Logs
 -- those of one log of an append, Whole those of all together. For callers Volumes has the facts of the volume, and Outcomes the laws of what
 -- an append comes to.
 mod Taking
-mod Judging
 mod Parts
 pub mod Volumes
 mod Logs

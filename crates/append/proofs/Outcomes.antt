@@ -1,5 +1,6 @@
 -- For callers: what an append comes to is what a call's action comes to, where entries, data and words to commit are the call's.
 use Rattle.model.proofs.Prelude.{ℕ, ◌+◌, ◌*◌, ◌/◌, ◌%◌, ◌≤◌, ◌<◌, ◌≡◌, ◌∙◌, ap, fun_ext, Bool, true, false, not, List, [], ◌∷◌, ◌++◌, some, arith, zero-add, sub-zero, and-false, eqb, length, drop, eq-eqb, ne_eqb, lt-ltb, le-ltb}
+use Rattle.std.specs.Prelude.{Ok}
 use Rattle.model.specs.Lists.{index_of}
 use Rattle.model.specs.Words.{word}
 use Rattle.model.specs.Layout.{valid_word, head_word, tail_word, type_word}
@@ -17,7 +18,6 @@ use Rattle.stores.specs.Emitted.{Emitted}
 use Rattle.stores.specs.Added.{element}
 use Rattle.stores.proofs.Emitting.{emitted_parts}
 use Rattle.answer.specs.Comes.{Comes}
-use Rattle.answer.specs.declared.Answer.TheVariants.{Number}
 use Rattle.entries.specs.Table.{entries_of}
 use Rattle.append.specs.declared.Append.{Append}
 use Rattle.append.specs.Appended.{zeroed, also_committed, first_count, asked, second_asked, plain, action_of, outcome, Ready}
@@ -100,7 +100,7 @@ module _ (v : List ℕ) (k : ℕ) (b : Bool) (es : List (List ℕ)) (i c z : ℕ
       rw (lay_same (lowest_pages f (u 0) c) c g h (pages_few f (u 0) (λ p h. (free_bounds u (u 0) (u 1) p h).1) c) same)
 
 -- words that were put at the start of a list
-pub comes_words : {l : List ℕ} {z : ℕ} {xs o : List ℕ} → Emitted l 0 xs z o → z ≤ length l → Comes (done xs) l (Number z) o
+pub comes_words : {l : List ℕ} {z : ℕ} {xs o : List ℕ} → Emitted l 0 xs z o → z ≤ length l → Comes (done xs) l (Ok z) o
 comes_words {l} {z} {xs} p h =
     let e : z ≡ length xs = p.end ∙ zero-add (length xs) in
     record { answer = ap (λ n. done (some n)) e; list = emitted_parts p (omega arith) ∙ ap (λ n. xs ++ drop n l) e }

@@ -1,5 +1,6 @@
 -- The whole append: where it has room, the list is that of the definitions' action, and where not, the answer is 12 or 15.
 use Rattle.model.proofs.Prelude.{ℕ, ◌+◌, ◌*◌, ◌-◌, ◌/◌, ◌≤◌, ◌<◌, ◌≡◌, refl, sym, ap, ◌∙◌, Bool, true, false, cond, not, List, [], ◌∷◌, ◌++◌, ⊎_elim, some, arith, add-zero, zero-add, sub-zero, ltb, eqb, length, get_or, take, drop, replicate, length-append, length-map, length-replicate, length-take-le, length-drop, take_all, eq-eqb, ne_eqb, lt-ltb, ltb-true, ltb-false, not-false}
+use Rattle.std.specs.Prelude.{Result, Ok, Err, IsErrAnd}
 use Rattle.model.specs.Lists.{bit, sum_below, lowest_few, index_of, has}
 use Rattle.model.specs.Words.{Mem, word}
 use Rattle.model.specs.Layout.{head_word, tail_word, type_word}
@@ -27,13 +28,12 @@ use Rattle.entries.specs.Table.{entries_of, Holds, data_page}
 use Rattle.entries.proofs.Entries.{length_entries, entries_take, entries_drop}
 use Rattle.space.specs.Space.{ArePages, PagesTaken}
 use Rattle.space.proofs.Taken.{length_marked}
-use Rattle.answer.specs.Meaning.{meaning, numbered}
+use Rattle.answer.specs.Meaning.{meaning, numbered, number_of}
 use Rattle.answer.specs.Comes.{Comes}
-use Rattle.answer.specs.declared.Answer.{Answer}
-use Rattle.answer.specs.declared.Answer.TheVariants.{Number, NoSpace}
-use Rattle.answer.proofs.Codes.{NoNumber}
-use Rattle.answer.proofs.Checked.{clash, same_refusal, none_refuses}
-use Rattle.answer.proofs.Coming.{comes_told, comes_as}
+use Rattle.answer.specs.declared.Refusal.{Refusal}
+use Rattle.answer.specs.declared.Refusal.TheVariants.{NoSpace}
+use Rattle.answer.proofs.Checked.{clash, passed_on, same_refusal, none_refuses}
+use Rattle.answer.proofs.Coming.{comes_refused}
 use Rattle.laying.specs.declared.Laid.{Laid}
 use Rattle.laying.specs.Laying.{page_of, slots_at, needed_at, start_at, may_take, fresh_from, pages_behind, to_lay, tail_behind, head_behind, Layable, LogLaid}
 use Rattle.laying.proofs.Steps.{no_need}
@@ -62,9 +62,6 @@ moved_entries ws n h =
     let a : moved_of ws k ≡ drop k ws = take_all (length ws - k) (drop k ws) (omega arith) in
     rw a (omega arith, entries_drop ws k 0 n ∙ ap (λ j. entries_of ws j n) (add-zero k))
 
-pub first_long : (ws : List ℕ) (n : ℕ) → 8 * (length ws / 8 - n) ≡ length (take (8 * (length ws / 8 - n)) ws)
-first_long ws n = sym (length-take-le (8 * (length ws / 8 - n)) ws (omega arith))
-
 -- What the code asks of the volume, the sizes and the inodes.
 module _ (v b : List ℕ) (a : Append) (ws ds l : List ℕ) (y : Ready v b a ws ds l) where
   abbrev sizes : (word v 0 ≤ 4096) × (word v 1 ≤ 256) × (64 + 8 * word v 1 ≤ 64 * word v 0) × (8 ≤ word v 1)
@@ -88,17 +85,8 @@ module _ (v b : List ℕ) (a : Append) (ws ds l : List ℕ) (y : Ready v b a ws 
   pub ready_pages : (P : ℕ) → P ≡ word v 0 → P ≤ 4096
   ready_pages P e = omega (arith, sizes.0)
 
-  pub ready_few : (n : ℕ) → n ≤ 9 → length ws / 8 - a.moved + n < 4611686018427387904
-  ready_few n h = omega (arith, y.few)
-
   pub ready_nine : (n : ℕ) → n ≡ length ds / 64 → n ≤ 9
   ready_nine n e = omega (arith, y.nine)
-
-  pub ready_bytes : 8 * (length ws / 8 - a.moved) * 8 < 18446744073709551616
-  ready_bytes = omega (arith, y.few)
-
-  pub ready_moved : a.moved < 4611686018427387904
-  ready_moved = omega (arith, y.few, y.moved)
 
   pub ready_marks : length b ≡ 4096
   ready_marks = rw (y.volume.served.list refl) (length_marked _ (replicate 4096 0) ∙ length-replicate {A = ℕ} 4096 0)
@@ -204,7 +192,7 @@ module _ (v b : List ℕ) (a : Append) (ws ds l : List ℕ) (y : Ready v b a ws 
   free_count_lem = sym (eF ∙ ap (λ (g : ℕ → Bool). sum_below s.pages (λ p. bit (g p))) free_is_lem ∙ rw ep)
 
   -- too few pages for the data are too few in all
-  pub refuses_data : not en ≡ true → Comes (outcome v (action_of a ws ds)) l NoSpace l
+  pub refuses_data : not en ≡ true → Comes (outcome v (action_of a ws ds)) l (Err NoSpace) l
   unfolding outcome action_of action_checks space_checks room_checks all_needed pages_needed asked data_pages free_count
   refuses_data e =
       let few-data = ltb-true (length D) c (data_lacks ∙ e) in
@@ -219,16 +207,11 @@ module _ (v b : List ℕ) (a : Append) (ws ds l : List ℕ) (y : Ready v b a ws 
   pub few_entries : (more : ℕ) → more ≤ length (take c ps) → length os ≡ 9 → more ≤ 9
   few_entries more h i = omega (arith, pages_long i, y.nine)
 
-  pub table_asks : (z : ℕ) → length os ≡ 9 → z ≡ 72 → (length (take c ps) ≤ 128) × (8 * length (take c ps) ≤ z) × (a.file < 4294967296)
-  table_asks z i j = let g = y.nine in let h = pages_long i in (omega arith, omega arith, y.file)
-
-  -- The data has its pages. Of the table xs₀ the first `more` entries are those of its stretches, q₁ and q₂ are the pages that the logs need, and
-  -- j is what `room` answered of all the pages.
+  -- The data has its pages. Of the table xs₀ the first `more` entries are those of its stretches, q₁ and q₂ are the pages that the logs need.
   module _ (some-data : not en ≡ false) (more : ℕ) (os₂ xs₀ : List ℕ)
       (held : Holds os₂ xs₀ more (stretch_entries a.size (stretches (data_page (take (length ds / 64) ps) a.file) (length (take (length ds / 64) ps)) a.file)))
       (few-more : more ≤ length (take (length ds / 64) ps)) (table : length os₂ ≡ 72) (q₁ q₂ : ℕ)
-      (e₁ : q₁ ≡ needed_at t (length ws / 8 - a.moved + more)) (e₂ : q₂ ≡ needed_at t₂ a.moved) (j : Answer)
-      (judged : meaning j ≡ numbered (first_refusal (room_checks a.keeps F (length ds / 64 + q₁ + q₂)) (done (length ds / 64 + q₁ + q₂)))) where
+      (e₁ : q₁ ≡ needed_at t (length ws / 8 - a.moved + more)) (e₂ : q₂ ≡ needed_at t₂ a.moved) where
     abbrev m : ℕ
     m = n + more
 
@@ -307,20 +290,23 @@ module _ (v b : List ℕ) (a : Append) (ws ds l : List ℕ) (y : Ready v b a ws 
     unfolding outcome action_of action_checks space_checks
     outcome_is = rw (free_count_lem, needs_are)
 
-    pub refuses_log : NoNumber j → Comes (outcome v (action_of a ws ds)) l j l
-    refuses_log o =
-        let cs = room_checks a.keeps F (c + q₁ + q₂) in
-        comes_as _ (first_refusal cs (done L)) l j l outcome_is
-        (comes_told (first_refusal cs (done L)) l j o (same_refusal j cs _ judged (λ (w : List ℕ). some (length w)) (done L) o))
+    -- j is what `room` answers of all the pages
+    abbrev Judged : Result ℕ Refusal → Type 0
+    Judged j = meaning j ≡ numbered (first_refusal (room_checks a.keeps F (c + q₁ + q₂)) (done (c + q₁ + q₂)))
 
-    module _ (n₀ : ℕ) (is_number : j ≡ Number n₀) where
+    pub refuses_log : (r : Refusal) (j : Result ℕ Refusal) → IsErrAnd j (λ d. d ≡ r) → Judged (Err r) → Comes (outcome v (action_of a ws ds)) l j l
+    refuses_log r j p judged =
+        rw (passed_on r j p)
+        (comes_refused _ l r (outcome_is ∙ same_refusal (number_of r) (room_checks a.keeps F (c + q₁ + q₂)) _ judged (done L)))
+
+    module _ (n₀ : ℕ) (judged : Judged (Ok n₀)) where
       no_refusal : outcome v (action_of a ws ds) ≡ done L
-      no_refusal = outcome_is ∙ none_refuses (room_checks a.keeps F (c + q₁ + q₂)) _ n₀ (rw is_number at judged) (done L)
+      no_refusal = outcome_is ∙ none_refuses (room_checks a.keeps F (c + q₁ + q₂)) _ n₀ judged (done L)
 
       enough : c + q₁ + q₂ ≤ F
       unfolding room_checks
       enough =
-          by_lt F (c + q₁ + q₂) (λ h. clash no_space (some n₀) (sym (rw (is_number, lt-ltb F (c + q₁ + q₂) h) at judged))) (λ h. h)
+          by_lt F (c + q₁ + q₂) (λ h. clash no_space (some n₀) (sym (rw (lt-ltb F (c + q₁ + q₂) h) at judged))) (λ h. h)
 
       -- both logs have their pages
       abbrev all_free : ℕ
@@ -357,7 +343,7 @@ module _ (v b : List ℕ) (a : Append) (ws ds l : List ℕ) (y : Ready v b a ws 
           at_layable v b k s y.volume ep may_free a.anew a.log y.log y.valid g₀ et m
           (rw (seeks (needed_at t m), ← e₁) enough_first)
 
-      are_pages : ArePages (length (take c ps)) (take c ps)
+      are_pages : ArePages (take c ps)
       unfolding data_pages asked
       are_pages j h =
           let g = pages_hold f P bound c (get_or D j 0) (has_get_or D j (rw pages_are at h)) in
@@ -439,9 +425,6 @@ module _ (v b : List ℕ) (a : Append) (ws ds l : List ℕ) (y : Ready v b a ws 
       count_is : length w₁ / 8 + length w₂ / 8 ≡ m
       count_is = rw (split.0, writes_are.0)
 
-      pub writes_long : 8 * more ≡ length w₂
-      writes_long = sym (length-take-le (8 * more) xs₀ (omega (arith, held.long, few_writes, y.nine)))
-
       pub lay_asks : (s.pages ≤ 4096) × Layable k s g₀ (length w₁ / 8 + length w₂ / 8) × (0 + 18 * (length w₁ / 8 + length w₂ / 8) ≤ length l)
       lay_asks = (omega (arith, few.0), rw count_is first_layable, omega (arith, count_is, few_writes, y.room))
 
@@ -451,7 +434,7 @@ module _ (v b : List ℕ) (a : Append) (ws ds l : List ℕ) (y : Ready v b a ws 
         unfolding asked
         left = log_left u P f A k s g₀ m et refl all_long seeks first_layable.enough i (rw count_is at d.left)
 
-        pub rest_asks : (a.log < 4294967296) × ArePages (length (take c ps)) (take c ps) × (64 * length (take c ps) ≤ length ds)
+        pub rest_asks : (a.log < 4294967296) × ArePages (take c ps) × (64 * length (take c ps) ≤ length ds)
             × (i.end + 128 * length (take c ps) + 2 ≤ length m₁)
         rest_asks = (
           omega (arith, few.1, y.log),
@@ -543,7 +526,7 @@ module _ (v b : List ℕ) (a : Append) (ws ds l : List ℕ) (y : Ready v b a ws 
           → Added m₁ 0 i.end (rest_of a t i.head (take (length ds / 64) ps) ds) e m₂
           → SecondLaid k s m₂ (start_at e t₂ i.from) a.second w₃ h m₃ → Added m₃ 0 h.end (zeroed a) e₃ m₄
           → Emitted c₀ 0 (pairs_of (committing a i.head i.tail h.tail)) zs cs → 8 ≤ length c₀ → zs ≤ 8
-          → Committed v m₄ e₃ (changes_of (take zs cs)) z m₅ → z ≤ length m₄ → Comes (outcome v (action_of a ws ds)) l (Number z) m₅
+          → Committed v m₄ e₃ (changes_of (take zs cs)) z m₅ → z ≤ length m₄ → Comes (outcome v (action_of a ws ds)) l (Ok z) m₅
       unfolding action_of action_groups all_prepared all_changes committing first_count asked
       fills i h e e₃ z zs c₀ cs m₁ m₂ m₃ m₄ m₅ x₁ x₂₀ x₃ x₄ x₅ room most x₆ x₇ =
           let W : length v / 8 ≡ 64 * P = let q = closed_bytes v b y.volume in omega arith in
@@ -569,4 +552,4 @@ module _ (v b : List ℕ) (a : Append) (ws ds l : List ℕ) (y : Ready v b a ws 
           ≡ store_list (64 * P) (commit u (both (all_prepared u P f (A ∷ S)) (zeroed a)) (all_changes u P f (A ∷ S) ++ also_committed a))
           = rw (stores, changes, put_changes c₀ cs zs _ x₅ room most) in
           let done-list = rw gs at list in
-          comes_as _ _ l (Number z) m₅ no_refusal (comes_words done-list (omega (arith, x₇, q.long)))
+          rw no_refusal (comes_words done-list (omega (arith, x₇, q.long)))

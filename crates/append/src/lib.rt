@@ -15,9 +15,10 @@ ghost use Rattle.answer.specs.Comes.{Comes};
 ghost use Rattle.laying.specs.Laying.{Layable};
 ghost use Rattle.append.specs.Appended.{old_tail, head_of, rest_of, SecondLaid, zeroed, pairs_of, committing, action_of, outcome, Ready};
 
-use answer::Answer;
+use answer::Refusal;
 use laying::Laid;
 use layout::Sizes;
+use marks::Marks;
 
 // What is appended to the log of inode `log`, or is the whole of it where the log is written `anew`. Entries and data are given beside
 // it; the last `moved` entries go to the log of inode `second` instead, which goes on: a valid inode, also where none are moved. The data
@@ -70,21 +71,16 @@ fn put_head(list: &mut [u64], g: Laid, anew: bool, k: usize, tail: usize) -> usi
 // Puts data into the first group, which ends at end: 64 words for each page of `pages`. Answers the index behind the group.
 // Example: where pages are 5 and 8 it puts the words 320 to 383 and 512 to 575.
 fn put_data(list: &mut [u64], end: usize, pages: &[u64], data: &[u64]) -> usize
-    requires { ArePages (length pages.now) pages.now × (64 * length pages.now ≤ length «data».now)
+    requires { ArePages pages.now × (64 * length pages.now ≤ length «data».now)
         × (end + 128 * length pages.now ≤ length list.old) }
     ensures { Added list.old 0 end (lay_pages pages.now (element «data».now)) result list.new
         × (result ≤ end + 128 * length pages.now) }
 {
-    let n = pages.len();
     let mut e = end;
-    let mut i: usize = 0;
-    while i < n {
-        let p = pages[i] as usize;
-        let w = layout::PAGE_WORDS * p;
+    for (i, p) in pages.iter().enumerate() {
         let a = layout::PAGE_WORDS * i;
-        let b = a + layout::PAGE_WORDS;
-        e = stores::put_words(list, e, w, &data[a..b]);
-        i = i + 1;
+        let w = layout::PAGE_WORDS * (*p as usize);
+        e = stores::put_words(list, e, w, &data[a..a + layout::PAGE_WORDS]);
     }
     e
 }
@@ -93,7 +89,7 @@ fn put_data(list: &mut [u64], end: usize, pages: &[u64], data: &[u64]) -> usize
 // Answers the index behind the group.
 // Example: of an append without data to a log that goes on and has a page it puts nothing.
 fn put_rest(list: &mut [u64], g: Laid, a: Append, tail: usize, pages: &[u64], data: &[u64]) -> usize
-    requires { (a.log < 2 ^ 32) × ArePages (length pages.now) pages.now × (64 * length pages.now ≤ length «data».now)
+    requires { (a.log < 2 ^ 32) × ArePages pages.now × (64 * length pages.now ≤ length «data».now)
         × (g.end + 128 * length pages.now + 2 ≤ length list.old) }
     ensures { Added list.old 0 g.end (rest_of a tail g.head pages.now «data».now) result
         list.new
@@ -108,7 +104,7 @@ fn put_rest(list: &mut [u64], g: Laid, a: Append, tail: usize, pages: &[u64], da
 // Example: with tail 1,216 and one entry it puts the words 152 to 159, and the tail is 1,280.
 fn lay_second(
     list: &mut [u64],
-    marks: &[u8; 4096],
+    marks: &Marks,
     sizes: Sizes,
     g: Laid,
     k: usize,
@@ -125,12 +121,7 @@ fn lay_second(
     let none = [0u64; 1];
     let h = laying::lay_log(list, marks, sizes, g, entries, &none[..0]);
     let end = put_head(list, h, false, k, g.tail);
-    Laid {
-        end,
-        head: h.head,
-        tail: h.tail,
-        from: h.from,
-    }
+    Laid { end, ..h }
 }
 
 // Puts head and tail of a new inode, zeros, and its type into the first group, which ends at end. Answers the index behind the group.
@@ -185,38 +176,35 @@ fn to_commit(words: &mut [u64], a: Append, g: Laid, second_tail: usize) -> usize
     put_change(words, d, has_other, layout::valid_word(a.other), a.valid)
 }
 
-// Answers Number with the count of pages that a call needs, if it has room for them; NoSpace where fewer are free, and LastPage where it
-// would take the last one and keeps that page.
-// Example: room(true, 5, 4) is Number(4), room(true, 5, 5) LastPage, room(false, 5, 5) Number(5), room(true, 5, 6) NoSpace, and
-// room(true, 0, 0) Number(0).
-fn room(keeps: bool, free: usize, needed: usize) -> Answer
+// Answers the count of pages that a call needs, if it has room for them; refuses with NoSpace where fewer are free, and with LastPage where
+// it would take the last one and keeps that page.
+// Example: room(true, 5, 4) is Ok(4), room(true, 5, 5) Err(Refusal::LastPage), room(false, 5, 5) Ok(5), room(true, 5, 6)
+// Err(Refusal::NoSpace), and room(true, 0, 0) Ok(0).
+#[tactic(auto, unfolding(model::specs::Calls::room_checks))]
+fn room(keeps: bool, free: usize, needed: usize) -> Result<usize, Refusal>
     ensures { meaning result ≡ numbered (first_refusal (room_checks keeps free needed) (done needed)) }
 {
     if free < needed {
-        return Answer::NoSpace;
+        return Err(Refusal::NoSpace);
     }
-    if keeps {
-        if needed != 0 {
-            if needed == free {
-                return Answer::LastPage;
-            }
-        }
+    if keeps && needed != 0 && needed == free {
+        return Err(Refusal::LastPage);
     }
-    Answer::Number(needed as u64)
+    Ok(needed)
 }
 
-// Makes an append: takes its pages, fills the list with the first group and what commits it, and answers Number with the count of words
-// filled; NoSpace or LastPage where it has no room, and then leaves the list. The entries have eight words each, the data 64 words for
+// Makes an append: takes its pages, fills the list with the first group and what commits it, and answers the count of words filled;
+// refuses with NoSpace or LastPage where it has no room, and then leaves the list. The entries have eight words each, the data 64 words for
 // each page, of which there are nine at most: a write of 4,096 bytes covers no more.
 // Example: of one entry on a page that has room for it, and no data, the list has 22 words: eight pairs and a fence, the tail and a fence.
 pub fn make(
     v: &[u8],
-    marks: &mut [u8; 4096],
+    marks: &mut Marks,
     a: Append,
     entries: &[u64],
     data: &[u64],
     list: &mut [u64],
-) -> Answer
+) -> Result<u64, Refusal>
     requires { Ready v.now marks.old a entries.now «data».now list.old }
     ensures { Comes (outcome v.now (action_of a entries.now «data».now)) list.old result
         list.new }
@@ -226,19 +214,16 @@ pub fn make(
     let second_tail = old_tail(v, false, a.second);
     let n = entries.len() / layout::ENTRY_WORDS - a.moved;
     let count = data.len() / layout::PAGE_WORDS;
-    let free = inodes::free_count(marks, sizes.pages, sizes.inodes) as usize;
+    let free = inodes::free_count(marks, sizes) as usize;
     let mut pages = [0u64; 9];
     if !space::take_pages(marks, sizes, count, &mut pages) {
-        return Answer::NoSpace;
+        return Err(Refusal::NoSpace);
     }
     let mut writes = [0u64; 72];
     let more = entries::put_stretches(&pages[..count], a.file, a.size, &mut writes);
     let needed = laying::pages_needed(tail, n + more);
     let second_needed = laying::pages_needed(second_tail, a.moved);
-    let judged = room(a.keeps, free, count + needed + second_needed);
-    let Answer::Number(_) = judged else {
-        return judged;
-    };
+    room(a.keeps, free, count + needed + second_needed)?;
     let m = layout::ENTRY_WORDS * more;
     let split = layout::ENTRY_WORDS * n;
     let begin = Laid {
@@ -258,5 +243,5 @@ pub fn make(
     let end = put_new(list, h.end, a);
     let mut words = [0u64; 8];
     let filled = to_commit(&mut words, a, g, h.tail);
-    Answer::Number(commit::commit(v, list, end, &words[..filled]) as u64)
+    Ok(commit::commit(v, list, end, &words[..filled]) as u64)
 }

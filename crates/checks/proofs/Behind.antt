@@ -1,5 +1,6 @@
 -- For the calls by name: what a call comes to, as the stages in which the code asks. Behind the last of them refusals 12 and 15 are left.
-use Rattle.model.proofs.Prelude.{ℕ, ◌≡◌, refl, ◌∙◌, Bool, true, false, not, cond, ◌&&◌, ◌||◌, List, [], ◌∷◌, some, length}
+use Rattle.model.proofs.Prelude.{ℕ, ◌≡◌, refl, ◌∙◌, Bool, true, false, not, cond, ◌&&◌, ◌||◌, List, [], ◌∷◌, none, length}
+use Rattle.std.specs.Prelude.{Result, Ok, Err, IsErrAnd, ⊤}
 use Rattle.model.specs.Words.{Mem, word}
 use Rattle.model.specs.Journal.{view}
 use Rattle.model.specs.Stores.{store_list}
@@ -10,27 +11,34 @@ use Rattle.model.specs.Calls.{checks, groups, action, action_checks, action_grou
 use Rattle.model.specs.Calls.{is_absent, stands, is_full, same_inode}
 use Rattle.model.specs.Public.{needs_closed}
 use Rattle.model.proofs.Tests.{by_bool}
-use Rattle.answer.specs.Meaning.{meaning, numbered}
+use Rattle.answer.specs.Meaning.{meaning, done_meaning, numbered, plain, number_of}
 use Rattle.answer.specs.Comes.{Comes, came_to}
-use Rattle.answer.specs.declared.Answer.{Answer}
-use Rattle.answer.specs.declared.Answer.TheVariants.{Number}
-use Rattle.answer.proofs.Codes.{NoNumber}
-use Rattle.answer.proofs.Checked.{checks_after, same_refusal, none_refuses}
-use Rattle.answer.proofs.Coming.{comes_told}
+use Rattle.answer.specs.declared.Refusal.{Refusal}
+use Rattle.answer.proofs.Checked.{checks_after, passed_on, refuses_alike, passes_alike, same_refusal, none_refuses}
+use Rattle.answer.proofs.Coming.{comes_refused}
 use Rattle.gate.specs.Gated.{fill_checks, Gated}
 use Rattle.gate.proofs.Lists.{filled_words, own_checks, fill_behind}
 use Rattle.checks.specs.declared.TwoFolders.{TwoFolders}
 use Rattle.checks.specs.declared.Leads.{Leads}
 use Rattle.checks.specs.Names.{create_first, unlink_first, absent_in, given_first, Led, are_folders, link_last, are_same, is_onto, is_into, rename_last}
 
--- One stage: call c comes to y where none of the checks cs holds, and t is what they came to.
-module _ (v l : List ℕ) (c : Call) (cs : Checks) (y : model.Answer (List ℕ)) (q : came_to v l c ≡ first_refusal cs y) (x : ℕ) (t : Answer)
-    (h : meaning t ≡ numbered (first_refusal cs (done x))) where
-  pub told : NoNumber t → Comes (came_to v l c) l t l
-  told o = comes_told (came_to v l c) l t o (rw q (same_refusal t cs x h (λ (z : List ℕ). some (length z)) y o))
+-- One stage: call c comes to y where none of the checks cs holds. They came to a refusal, which `?` passed on, ..
+module _ (v l : List ℕ) (c : Call) (cs : Checks) (y : model.Answer (List ℕ)) (q : came_to v l c ≡ first_refusal cs y) where
+  pub told : (x : ℕ) (e : Refusal) (r : Result ℕ Refusal) → IsErrAnd r (λ d. d ≡ e) → meaning (Err e) ≡ numbered (first_refusal cs (done x))
+      → Comes (came_to v l c) l r l
+  told x e r p h = rw (passed_on e r p) (comes_refused (came_to v l c) l e (q ∙ same_refusal (number_of e) cs x h y))
 
-  pub passed : (i : ℕ) → t ≡ Number i → came_to v l c ≡ y
-  passed i j = q ∙ none_refuses cs x i (rw j at h) y
+  pub told_plain : (e : Refusal) (r : Result ℕ Refusal) → IsErrAnd r (λ d. d ≡ e)
+      → done_meaning (Err e) ≡ plain (first_refusal cs (done record {})) → Comes (came_to v l c) l r l
+  told_plain e r p h =
+      rw (passed_on e r p) (comes_refused (came_to v l c) l e (q ∙ refuses_alike (λ n. none) (number_of e) cs _ h y))
+
+  -- .. or to a number, or to done
+  pub passed : (x i : ℕ) → meaning (Ok i) ≡ numbered (first_refusal cs (done x)) → came_to v l c ≡ y
+  passed x i h = q ∙ none_refuses cs x i h y
+
+  pub passed_plain : (u : ⊤) → done_meaning (Ok u) ≡ plain (first_refusal cs (done record {})) → came_to v l c ≡ y
+  passed_plain u h = q ∙ passes_alike (λ n. none) none cs _ h y
 
 or_split : {A : Type 0} (a b : Bool) (r s : A) → cond (a || b) r s ≡ cond a r (cond b r s)
 or_split true b r s = refl
@@ -40,10 +48,9 @@ not_both : (a b : Bool) → not a || not b ≡ not (a && b)
 not_both true b = refl
 not_both false b = refl
 
--- r, places, marks and tree are what the gate answered and left
-module _ (v l : List ℕ) (r : Answer) (places marks tree : List ℕ)
-    (g : Gated v (fill_checks (length v) (word v) (length l)) r places marks tree)
-    (n : ℕ) (e : r ≡ Number n) where
+-- n, places, marks and tree are what the gate answered and left
+module _ (v l : List ℕ) (n : ℕ) (places marks tree : List ℕ)
+    (g : Gated v (fill_checks (length v) (word v) (length l)) (Ok n) places marks tree) where
   abbrev u : Mem
   u = view (word v)
 
@@ -60,7 +67,7 @@ module _ (v l : List ℕ) (r : Answer) (places marks tree : List ℕ)
       first_refusal (space_checks u P N a.keeps a.appends) (done (filled_words v c))
 
   came_to_lem : (c : Call) → needs_closed c ≡ true → came_to v l c ≡ first_refusal (own_checks v c) (done (filled_words v c))
-  came_to_lem c o = fill_behind v l c o r places marks tree g n e
+  came_to_lem c o = fill_behind v l c o places marks tree n g
 
   pub create_came : (d : ℕ) (x : List ℕ) → came_to v l (create d x) ≡ first_refusal (create_first v d x) (filled (create d x))
   unfolding checks action action_checks create_action

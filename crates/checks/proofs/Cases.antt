@@ -1,30 +1,31 @@
 -- Each test of the code is one of the checks, and those before it did not hold. Premises are what the code knows.
-use Rattle.model.proofs.Prelude.{ℕ, ◌≤◌, ◌<◌, ◌≡◌, refl, sym, ◌∙◌, Bool, true, false, not, ◌&&◌, cond, List, [], ◌∷◌, ◌++◌, some, le-leb, lt-leb, eq-eqb, ne_eqb, not-true, not-false, leb, eqb, ltb, length, take, and-false, and-true, le-ltb, lt-ltb, arith}
-use Rattle.model.specs.Lists.{is_some, or_else}
+use Rattle.model.proofs.Prelude.{ℕ, ◌≤◌, ◌<◌, ◌≡◌, refl, sym, ◌∙◌, Bool, true, false, not, cond, List, [], ◌∷◌, ◌++◌, none, some, le-leb, lt-leb, eq-eqb, ne_eqb, not-true, not-false, leb, eqb, ltb, length, take, le-ltb, lt-ltb, arith}
+use Rattle.std.specs.Prelude.{Option, Some, None, Result, Ok, Err, IsErrAnd, is_some, ok_or}
 use Rattle.model.specs.Words.{Mem, word}
-use Rattle.model.specs.Layout.{most_names, is_directory}
+use Rattle.model.specs.Layout.{is_directory}
 use Rattle.model.specs.Journal.{view}
 use Rattle.model.specs.Entry.{name_ok, new_name_ok}
 use Rattle.model.specs.State.{inode_of}
-use Rattle.model.specs.Answer.{refused, done, Checks, first_refusal, bad_name, not_there, taken, no_inode, directory_full, wrong_type, not_empty, into_itself}
+use Rattle.model.specs.Answer.{refused, done, Checks, first_refusal, bad_name, not_there, taken, no_inode, directory_full, wrong_type, not_empty}
 use Rattle.model.specs.Calls.{none_there, stands, is_absent, is_full, invalid_inode, create_action, unlink_action}
-use Rattle.model.proofs.Tests.{by_eq, by_lt, not_not}
+use Rattle.model.proofs.Tests.{by_eq, by_lt}
 use Rattle.directory.specs.Places.{standing}
 use Rattle.names.specs.Inodes.{below, valid_in}
+use Rattle.layout.specs.Options.{to_model}
 use Rattle.names.specs.Listed.{names_in, Turned}
 use Rattle.names.specs.declared.FolderNames.{FolderNames}
 use Rattle.names.proofs.Lowest.{invalid_from, inode_some, inode_is}
-use Rattle.answer.specs.Meaning.{meaning, numbered}
-use Rattle.answer.specs.declared.Answer.{Answer}
-use Rattle.answer.specs.declared.Answer.TheVariants.{Number}
-use Rattle.answer.proofs.Codes.{NoNumber}
-use Rattle.answer.proofs.Checked.{checks_after, same_refusal, none_refuses, same_number}
+use Rattle.lookup.specs.Found.{found_inode}
+use Rattle.answer.specs.Meaning.{meaning, numbered, plain, number_of}
+use Rattle.answer.specs.declared.Refusal.{Refusal}
+use Rattle.answer.specs.declared.Refusal.TheVariants.{NotThere, NoInode}
+use Rattle.answer.proofs.Checked.{checks_after, passed_on, same_refusal, none_refuses, same_number}
 use Rattle.tree.specs.Table.{above_in}
 use Rattle.tree.proofs.Meanings.{beneath_is}
 use Rattle.survey.specs.Surveyed.{TreeOf}
 use Rattle.checks.specs.declared.TwoFolders.{TwoFolders}
 use Rattle.checks.specs.declared.Leads.{Leads}
-use Rattle.checks.specs.Names.{leads_in, new_inode, find_first, create_first, unlink_first, absent_in, has_names_in, given_first, are_folders, link_last, are_same, is_onto, is_into, rename_last, rename_comes}
+use Rattle.checks.specs.Names.{leads_in, new_inode, find_first, create_first, unlink_first, has_names_in, given_first, given_comes, is_into}
 use Rattle.checks.proofs.Volumes.{turned_count, turned_leads}
 
 -- what `is_valid` answered of inode d, q, is whether it is there
@@ -34,6 +35,15 @@ unfolding none_there valid_in below
 there_is v N d q e a =
     rw (a, e)
     (by_lt d (word v 1) (λ l. rw (lt-leb (word v 1) d l, lt-ltb d (word v 1) l)) (λ l. rw (le-leb (word v 1) d l, le-ltb d (word v 1) l)))
+
+-- what `ok_or` made of o, by what came of it
+missing : (o : Option ℕ) (e d : Refusal) → Err e ≡ ok_or {T = ℕ} o d → (is_some o ≡ false) × (e ≡ d)
+missing None e d h = (refl, let q : ◌≡◌ {A = Result ℕ Refusal} (Err e) (Err d) = h in cc)
+missing (Some k) e d h = let q : ◌≡◌ {A = ℕ} 0 1 = cc in absurd (omega arith)
+
+found : (o : Option ℕ) (k : ℕ) (d : Refusal) → Ok k ≡ ok_or {T = ℕ} o d → o ≡ Some k
+found None k d h = let q : ◌≡◌ {A = ℕ} 0 1 = cc in absurd (omega arith)
+found (Some j) k d h = cc
 
 -- one name: n, in folder d
 module _ (v : List ℕ) (d : ℕ) (n : List ℕ) where
@@ -64,19 +74,17 @@ module _ (v : List ℕ) (d : ℕ) (n : List ℕ) where
         unfolding find_first is_absent
         find_file s = rw (← a, not-false f y, there_is v N' d q o b, not-false q z, ← l, not-true i s)
 
-        -- k is what `find_name` answered in a table turned to d
-        module _ (s : not i ≡ false) (r : FolderNames) (t : List ℕ) (w : Turned v d r t) (k : ℕ)
-            (e : k ≡ inode_of (standing (word v) (take r.count t)) n) where
-          leads_is : leads_in v d n ≡ k
-          leads_is = sym (turned_leads v d r t w n k e)
-
-          pub find_absent : k ≡ 0 → refused not_there ≡ numbered (first_refusal (find_first v d n) (done (leads_in v d n)))
+        -- In a table turned to d, m is what `find_name` answered, and x the answer that `ok_or` makes of it.
+        module _ (s : not i ≡ false) (r : FolderNames) (t : List ℕ) (w : Turned v d r t) (m : Option ℕ)
+            (e : m ≡ found_inode (standing (word v) (take r.count t)) n) where
+          pub find_last : (x : Result ℕ Refusal) → x ≡ ok_or m NotThere
+              → meaning x ≡ numbered (first_refusal (find_first v d n) (done (leads_in v d n)))
           unfolding find_first is_absent stands
-          find_absent x = rw (← a, not-false f y, there_is v N' d q o b, not-false q z, ← l, not-false i s, leads_is, eq-eqb k 0 x)
-
-          pub find_is : (k ≡ 0 → ⊥) → done (some k) ≡ numbered (first_refusal (find_first v d n) (done (leads_in v d n)))
-          unfolding find_first is_absent stands
-          find_is x = rw (← a, not-false f y, there_is v N' d q o b, not-false q z, ← l, not-false i s, leads_is, ne_eqb k 0 x)
+          find_last x o₂ =
+              let k = inode_of (standing (word v) (take r.count t)) n in
+              let k_is : leads_in v d n ≡ k = sym (turned_leads v d r t w n k refl) in
+              rw (← a, not-false f y, there_is v N' d q o b, not-false q z, ← l, not-false i s, k_is)
+              (by_eq k 0 (λ g. rw (o₂, e, eq-eqb k 0 g)) (λ g. rw (o₂, e, ne_eqb k 0 g)))
 
   -- Create: f is what `is_new_name` answered.
   module _ (f : Bool) (a : f ≡ new_name_ok n) where
@@ -89,29 +97,29 @@ module _ (v : List ℕ) (d : ℕ) (n : List ℕ) where
       unfolding create_action
       create_none z = rw (← a, not-false f y, there_is v N' d q o b, not-true q z)
 
-      module _ (z : not q ≡ false) (r : FolderNames) (t : List ℕ) (w : Turned v d r t) (k : ℕ)
-          (e : k ≡ inode_of (standing (word v) (take r.count t)) n) where
-        stands_is : stands u P N d n ≡ not (eqb k 0)
+      -- m is what `find_name` answered, and k whether it is an inode
+      module _ (z : not q ≡ false) (r : FolderNames) (t : List ℕ) (w : Turned v d r t) (m : Option ℕ)
+          (e : m ≡ found_inode (standing (word v) (take r.count t)) n) (k : Bool) (g₀ : k ≡ is_some m) where
+        stands_is : stands u P N d n ≡ k
         unfolding stands
-        stands_is = rw (← (turned_leads v d r t w n k e))
+        stands_is =
+            let L = inode_of (standing (word v) (take r.count t)) n in
+            rw (← (turned_leads v d r t w n L refl)) (by_eq L 0 (λ h. rw (g₀, e, eq-eqb L 0 h)) (λ h. rw (g₀, e, ne_eqb L 0 h)))
 
-        pub create_taken : (k ≡ 0 → ⊥) → refused taken ≡ numbered (first_refusal (create_first v d n) (done (new_inode v)))
+        pub create_taken : k ≡ true → refused taken ≡ numbered (first_refusal (create_first v d n) (done (new_inode v)))
         unfolding create_action
-        create_taken x = rw (← a, not-false f y, there_is v N' d q o b, not-false q z, stands_is, ne_eqb k 0 x)
+        create_taken x = rw (← a, not-false f y, there_is v N' d q o b, not-false q z, stands_is, x)
 
         -- i is what `is_directory` answered of d
-        module _ (x : k ≡ 0) (i : Bool) (l : i ≡ is_directory u d) where
+        module _ (x : k ≡ false) (i : Bool) (l : i ≡ is_directory u d) where
           pub create_file : not i ≡ true → refused wrong_type ≡ numbered (first_refusal (create_first v d n) (done (new_inode v)))
           unfolding create_action
-          create_file s = rw (← a, not-false f y, there_is v N' d q o b, not-false q z, stands_is, eq-eqb k 0 x, ← l, not-true i s)
+          create_file s = rw (← a, not-false f y, there_is v N' d q o b, not-false q z, stands_is, x, ← l, not-true i s)
 
           -- j is what `free_inode` answered
-          module _ (s : not i ≡ false) (j : ℕ) (p : j ≡ or_else (invalid_from u N' 1) 0) where
-            some_is : is_some (invalid_inode u P N) ≡ not (eqb j 0)
-            some_is = inode_some u P N j (rw o at p)
-
+          module _ (s : not i ≡ false) (j : Option ℕ) (p : to_model j ≡ invalid_from u N' 1) where
             inode_asked : first_refusal (create_first v d n) (done (new_inode v))
-                ≡ cond (eqb j 0) (refused no_inode) (cond (leb 224 r.count) (refused directory_full) (done (new_inode v)))
+                ≡ cond (not (is_some j)) (refused no_inode) (cond (leb 224 r.count) (refused directory_full) (done (new_inode v)))
             unfolding create_action is_full
             inode_asked =
                 rw (
@@ -120,40 +128,53 @@ module _ (v : List ℕ) (d : ℕ) (n : List ℕ) where
                   there_is v N' d q o b,
                   not-false q z,
                   stands_is,
-                  eq-eqb k 0 x,
+                  x,
                   ← l,
                   not-false i s,
-                  some_is,
-                  not_not (eqb j 0),
+                  inode_some u P N j (rw o at p),
                   turned_count v d r t w,
                 )
 
-            pub create_no_inode : j ≡ 0 → refused no_inode ≡ numbered (first_refusal (create_first v d n) (done (new_inode v)))
-            create_no_inode g = rw (inode_asked, eq-eqb j 0 g)
+            -- `ok_or` makes a refusal of it, ..
+            pub create_no_inode : (g : Refusal) (h : Result ℕ Refusal) → IsErrAnd h (λ c. c ≡ g) → Err g ≡ ok_or j NoInode
+                → meaning h ≡ numbered (first_refusal (create_first v d n) (done (new_inode v)))
+            create_no_inode g h c k = let m = missing j g NoInode k in rw (passed_on g h c, inode_asked, m.0, m.1)
 
-            module _ (g : j ≡ 0 → ⊥) where
+            -- .. or its number
+            module _ (j₀ : ℕ) (h : Ok j₀ ≡ ok_or j NoInode) where
+              there : j ≡ Some j₀
+              there = found j j₀ NoInode h
+
               pub create_full : 224 ≤ r.count → refused directory_full ≡ numbered (first_refusal (create_first v d n) (done (new_inode v)))
-              create_full m = rw (inode_asked, ne_eqb j 0 g, le-leb 224 r.count m)
+              create_full m = rw (inode_asked, there, le-leb 224 r.count m)
 
-              pub create_is : r.count < 224 → done (some j) ≡ numbered (first_refusal (create_first v d n) (done (new_inode v)))
-              create_is m = rw (inode_asked, ne_eqb j 0 g, lt-leb 224 r.count m, ← (inode_is u P N j (rw o at p)))
+              pub create_is : r.count < 224 → done (some j₀) ≡ numbered (first_refusal (create_first v d n) (done (new_inode v)))
+              create_is m =
+                  let g : some j₀ ≡ invalid_inode u P N = rw there at (inode_is u P N j (rw o at p)) in
+                  rw (inode_asked, there, lt-leb 224 r.count m, ← g)
 
-  -- Unlink asks what find asks, and then one thing more: r is what `find_checks` answered.
-  module _ (r : Answer) (h : meaning r ≡ numbered (first_refusal (find_first v d n) (done (leads_in v d n)))) where
-    abbrev last : Checks
-    last = (ltb 0 (length (names_in v (leads_in v d n))), not_empty) ∷ []
+  -- Unlink asks what find asks, and then one thing more.
+  abbrev last : Checks
+  last = (ltb 0 (length (names_in v (leads_in v d n))), not_empty) ∷ []
 
-    unlink_all : unlink_first v d n ≡ find_first v d n ++ last
-    unfolding unlink_action find_first
-    unlink_all = refl
+  unlink_all : unlink_first v d n ≡ find_first v d n ++ last
+  unfolding unlink_action find_first
+  unlink_all = refl
 
-    pub unlink_refused : NoNumber r → meaning r ≡ numbered (first_refusal (unlink_first v d n) (done (leads_in v d n)))
-    unlink_refused x = rw (unlink_all, checks_after (find_first v d n) last _) (same_refusal r (find_first v d n) _ h some _ x)
+  -- `find_checks` refused with e, ..
+  pub unlink_refused : (e : Refusal) (r : Result ℕ Refusal) → IsErrAnd r (λ d. d ≡ e)
+      → meaning (Err e) ≡ numbered (first_refusal (find_first v d n) (done (leads_in v d n)))
+      → meaning r ≡ numbered (first_refusal (unlink_first v d n) (done (leads_in v d n)))
+  unlink_refused e r p h =
+      rw (passed_on e r p, unlink_all, checks_after (find_first v d n) last (done (leads_in v d n)))
+      (rw (same_refusal (number_of e) (find_first v d n) _ h (first_refusal last (done (leads_in v d n)))))
 
+  -- .. or answered i
+  module _ (i : ℕ) (h : meaning (Ok i) ≡ numbered (first_refusal (find_first v d n) (done (leads_in v d n)))) where
     -- f is what `has_names` answered
-    module _ (i : ℕ) (e : r ≡ Number i) (f : Bool) (a : f ≡ has_names_in v i) where
+    module _ (f : Bool) (a : f ≡ has_names_in v i) where
       inode_led : i ≡ leads_in v d n
-      inode_led = same_number (find_first v d n) (leads_in v d n) i (rw e at h)
+      inode_led = same_number (find_first v d n) (leads_in v d n) i h
 
       some_names : ltb 0 (length (names_in v (leads_in v d n))) ≡ f
       unfolding has_names_in
@@ -164,7 +185,7 @@ module _ (v : List ℕ) (d : ℕ) (n : List ℕ) where
 
       behind : first_refusal (unlink_first v d n) (done (leads_in v d n)) ≡ first_refusal last (done (leads_in v d n))
       behind = rw (unlink_all, checks_after (find_first v d n) last (done (leads_in v d n)))
-          (none_refuses (find_first v d n) (leads_in v d n) i (rw e at h) (first_refusal last (done (leads_in v d n))))
+          (none_refuses (find_first v d n) (leads_in v d n) i h (first_refusal last (done (leads_in v d n))))
 
       pub unlink_full : f ≡ true → refused not_empty ≡ numbered (first_refusal (unlink_first v d n) (done (leads_in v d n)))
       unlink_full y = rw (behind, some_names, y)
@@ -172,182 +193,32 @@ module _ (v : List ℕ) (d : ℕ) (n : List ℕ) where
       pub unlink_is : f ≡ false → done (some i) ≡ numbered (first_refusal (unlink_first v d n) (done (leads_in v d n)))
       unlink_is y = rw (behind, some_names, y, ← inode_led)
 
--- whether a name counts as absent: k is the inode that it leads to, f what `is_directory` answered of its folder d
-module _ (v : List ℕ) (d k : ℕ) where
-  pub absent_no : (k ≡ 0 → ⊥) → false ≡ absent_in v d k
-  unfolding absent_in
-  absent_no h = rw (ne_eqb k 0 h, and-false)
-
-  pub absent_type : (f : Bool) → k ≡ 0 → f ≡ is_directory (view (word v)) d → f ≡ absent_in v d k
-  unfolding absent_in
-  absent_type f h e = rw (eq-eqb k 0 h, and-true) e
-
-  -- r is what `list_names` answered of inode k
-  pub names_there : (r : FolderNames) (t : List ℕ) → Turned v k r t → not (eqb r.count 0) ≡ has_names_in v k
-  unfolding has_names_in
-  names_there r t w = rw (turned_count v k r t w)
-
 -- two names: a and b, in the folders of x
 module _ (v : List ℕ) (x : TwoFolders) (a b : List ℕ) where
   -- f is what `is_name` answered of a, g what `is_new_name` answered of b
   module _ (f : Bool) (e : f ≡ name_ok a) where
-    pub given_old : not f ≡ true → refused bad_name ≡ numbered (first_refusal (given_first v x a b) (done 0))
-    unfolding given_first
-    given_old y = rw (← e, not-true f y)
-
     module _ (y : not f ≡ false) (g : Bool) (h : g ≡ new_name_ok b) where
-      pub given_new : not g ≡ true → refused bad_name ≡ numbered (first_refusal (given_first v x a b) (done 0))
-      unfolding given_first
-      given_new z = rw (← e, not-false f y, ← h, not-true g z)
-
       -- q and q' are what `is_valid` answered of the folders
       module _ (z : not g ≡ false) (N : ℕ) (o : N ≡ word v 1) (q : Bool) (p : q ≡ valid_in (view (word v)) N x.old) where
-        pub given_no_old : not q ≡ true → refused not_there ≡ numbered (first_refusal (given_first v x a b) (done 0))
+        pub given_no_old : not q ≡ true → refused not_there ≡ plain (given_comes v x a b)
         unfolding given_first
         given_no_old l = rw (← e, not-false f y, ← h, not-false g z, there_is v N x.old q o p, not-true q l)
 
         module _ (l : not q ≡ false) (q' : Bool) (p' : q' ≡ valid_in (view (word v)) N x.new) where
-          new_asked : first_refusal {A = ℕ} (given_first v x a b) (done 0) ≡ cond (not q') (refused not_there) (done 0)
+          new_asked : given_comes v x a b ≡ cond (not q') (refused not_there) (done record {})
           unfolding given_first
           new_asked =
               rw (← e, not-false f y, ← h, not-false g z, there_is v N x.old q o p, not-false q l, there_is v N x.new q' o p')
 
-          pub given_no_new : not q' ≡ true → refused not_there ≡ numbered (first_refusal (given_first v x a b) (done 0))
+          pub given_no_new : not q' ≡ true → refused not_there ≡ plain (given_comes v x a b)
           given_no_new i = rw (new_asked, i)
 
-          pub given_is : not q' ≡ false → done (some 0) ≡ numbered (first_refusal (given_first v x a b) (done 0))
+          pub given_is : not q' ≡ false → done none ≡ plain (given_comes v x a b)
           given_is i = rw (new_asked, i)
 
--- whether a move from folder d to folder e, where the new name leads to j, makes c names too many
-abbrev overfull : ℕ → ℕ → ℕ → ℕ → Bool
-overfull d e j c = not (eqb d e) && not (not (eqb j 0)) && leb most_names c
-
-module _ (d e j c : ℕ) where
-  pub full_same : d ≡ e → false ≡ overfull d e j c
-  full_same h = rw (eq-eqb d e h)
-
-  pub full_stands : (d ≡ e → ⊥) → (j ≡ 0 → ⊥) → false ≡ overfull d e j c
-  full_stands h i = rw (ne_eqb d e h, ne_eqb j 0 i)
-
-  pub full_last : (d ≡ e → ⊥) → j ≡ 0 → leb most_names c ≡ overfull d e j c
-  full_last h i = rw (ne_eqb d e h, eq-eqb j 0 i)
-
--- the second stage: k says where the names lead
-module _ (v : List ℕ) (x : TwoFolders) where
-  -- f and g are what `is_directory` answered of the folders
-  module _ (f : Bool) (e : f ≡ is_directory (view (word v)) x.old) where
-    pub folders_not : not f ≡ true → false ≡ are_folders v x
-    unfolding are_folders
-    folders_not y = rw (← e, not-true f y)
-
-    pub folders_last : not f ≡ false → (g : Bool) → g ≡ is_directory (view (word v)) x.new → g ≡ are_folders v x
-    unfolding are_folders
-    folders_last y g h = rw (← e, not-false f y) h
-
-  module _ (k : Leads) where
-    -- f is what `are_directories` answered
-    module _ (f : Bool) (e : f ≡ are_folders v x) where
-      pub same_not : not f ≡ true → false ≡ are_same v x k
-      unfolding are_same
-      same_not y = rw (← e, not-true f y)
-
-      pub same_last : not f ≡ false → eqb k.old k.new ≡ are_same v x k
-      unfolding are_same
-      same_last y = rw (← e, not-false f y)
-
-    pub onto_none : k.new ≡ 0 → false ≡ is_onto v k
-    unfolding is_onto
-    onto_none h = rw (eq-eqb k.new 0 h)
-
-    -- f and g are what `is_directory` answered of the inodes
-    module _ (h : k.new ≡ 0 → ⊥) (f : Bool) (e : f ≡ is_directory (view (word v)) k.old) where
-      pub onto_folder : f ≡ true → true ≡ is_onto v k
-      unfolding is_onto
-      onto_folder y = rw (ne_eqb k.new 0 h, ← e, y)
-
-      pub onto_last : f ≡ false → (g : Bool) → g ≡ is_directory (view (word v)) k.new → g ≡ is_onto v k
-      unfolding is_onto
-      onto_last y g i = rw (i, ← e, y, ne_eqb k.new 0 h)
-
-    -- f is what `is_directory` answered of the old name's inode, g what `is_beneath` did
-    module _ (f : Bool) (e : f ≡ is_directory (view (word v)) k.old) where
-      pub into_file : not f ≡ true → false ≡ is_into v x k
-      unfolding is_into
-      into_file y = rw (← e, not-true f y)
-
-      pub into_last : not f ≡ false → (t : List ℕ) → TreeOf (word v) t → x.new < word v 1 → (N : ℕ) → N ≡ word v 1
-          → (g : Bool) → g ≡ above_in t N k.old x.new → g ≡ is_into v x k
-      unfolding is_into
-      into_last y t s l N o g i =
-          rw (← e, not-false f y) (i ∙ rw o (beneath_is (word v 1) (names_in v) t s.parent k.old x.new l))
-
-    abbrev full : Bool
-    full = overfull x.old x.new k.new k.count
-
-    -- f is what `is_absent` answered
-    module _ (f : Bool) (e : f ≡ absent_in v x.old k.old) where
-      pub link_absent : f ≡ true → refused not_there ≡ numbered (first_refusal (link_last v x k) (done k.old))
-      unfolding link_last
-      link_absent y = rw (← e, y)
-
-      module _ (y : f ≡ false) where
-        pub link_taken : (k.new ≡ 0 → ⊥) → refused taken ≡ numbered (first_refusal (link_last v x k) (done k.old))
-        unfolding link_last
-        link_taken h = rw (← e, y, ne_eqb k.new 0 h)
-
-        -- g is what `are_directories` answered, i what `is_directory` did
-        module _ (h : k.new ≡ 0) (g : Bool) (o : g ≡ are_folders v x) where
-          pub link_file : not g ≡ true → refused wrong_type ≡ numbered (first_refusal (link_last v x k) (done k.old))
-          unfolding link_last
-          link_file z = rw (← e, y, eq-eqb k.new 0 h, ← o, not-true g z)
-
-          module _ (z : not g ≡ false) (i : Bool) (p : i ≡ is_directory (view (word v)) k.old) where
-            pub link_folder : i ≡ true → refused wrong_type ≡ numbered (first_refusal (link_last v x k) (done k.old))
-            unfolding link_last
-            link_folder s = rw (← e, y, eq-eqb k.new 0 h, ← o, not-false g z, ← p, s)
-
-            pub link_full : i ≡ false → 224 ≤ k.count → refused directory_full ≡ numbered (first_refusal (link_last v x k) (done k.old))
-            unfolding link_last
-            link_full s m = rw (← e, y, eq-eqb k.new 0 h, ← o, not-false g z, ← p, s, le-leb 224 k.count m)
-
-            pub link_is : i ≡ false → k.count < 224 → done (some k.old) ≡ numbered (first_refusal (link_last v x k) (done k.old))
-            unfolding link_last
-            link_is s m = rw (← e, y, eq-eqb k.new 0 h, ← o, not-false g z, ← p, s, lt-leb 224 k.count m)
-
-      pub rename_absent : f ≡ true → refused not_there ≡ numbered (rename_comes v x k)
-      unfolding rename_comes
-      rename_absent y = rw (← e, y)
-
-      -- g is what `is_same` answered
-      module _ (y : f ≡ false) (g : Bool) (o : g ≡ are_same v x k) where
-        pub rename_same : g ≡ true → done (some 0) ≡ numbered (rename_comes v x k)
-        unfolding rename_comes
-        rename_same z = rw (← e, y, ← o, z)
-
-        -- i is what `are_directories` answered
-        module _ (z : g ≡ false) (i : Bool) (p : i ≡ are_folders v x) where
-          pub rename_file : not i ≡ true → refused wrong_type ≡ numbered (rename_comes v x k)
-          unfolding rename_comes rename_last
-          rename_file s = rw (← e, y, ← o, z, ← p, not-true i s)
-
-          -- j is what `is_onto` answered
-          module _ (s : not i ≡ false) (j : Bool) (q : j ≡ is_onto v k) where
-            pub rename_onto : j ≡ true → refused wrong_type ≡ numbered (rename_comes v x k)
-            unfolding rename_comes rename_last
-            rename_onto l = rw (← e, y, ← o, z, ← p, not-false i s, ← q, l)
-
-            -- m is what `is_into_itself` answered
-            module _ (l : j ≡ false) (m : Bool) (c : m ≡ is_into v x k) where
-              pub rename_into : m ≡ true → refused into_itself ≡ numbered (rename_comes v x k)
-              unfolding rename_comes rename_last
-              rename_into n = rw (← e, y, ← o, z, ← p, not-false i s, ← q, l, ← c, n)
-
-              -- w is what `is_overfull` answered
-              module _ (n : m ≡ false) (w : Bool) (d : w ≡ full) where
-                pub rename_full : w ≡ true → refused directory_full ≡ numbered (rename_comes v x k)
-                unfolding rename_comes rename_last
-                rename_full b = rw (← e, y, ← o, z, ← p, not-false i s, ← q, l, ← c, n, ← d, b)
-
-                pub rename_is : w ≡ false → done (some k.old) ≡ numbered (rename_comes v x k)
-                unfolding rename_comes rename_last
-                rename_is b = rw (← e, y, ← o, z, ← p, not-false i s, ← q, l, ← c, n, ← d, b)
+-- the old name leads to a folder: g is what `is_beneath` answered
+pub into_folder : (v : List ℕ) (x : TwoFolders) (k : Leads) (f : Bool) → f ≡ is_directory (view (word v)) k.old → f ≡ true
+    → (t : List ℕ) → TreeOf (word v) t → x.new < word v 1 → (N : ℕ) → N ≡ word v 1 → (g : Bool) → g ≡ above_in t N k.old x.new
+    → g ≡ is_into v x k
+unfolding is_into
+into_folder v x k f e y t s l N o g i = rw (← e, y) (i ∙ rw o (beneath_is (word v 1) (names_in v) t s.parent k.old x.new l))

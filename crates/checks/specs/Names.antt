@@ -7,7 +7,7 @@ use Rattle.model.specs.Layout.{is_directory, most_names}
 use Rattle.model.specs.Journal.{view}
 use Rattle.model.specs.Entry.{name_ok, new_name_ok}
 use Rattle.model.specs.Tree.{is_beneath}
-use Rattle.model.specs.Answer.{Answer, done, Checks, first_refusal, bad_name, not_there, taken, directory_full, wrong_type, into_itself}
+use Rattle.model.specs.Answer.{Answer, Nothing, done, Checks, first_refusal, bad_name, not_there, taken, directory_full, wrong_type, into_itself}
 use Rattle.model.specs.Calls.{none_there, leads_to, is_absent, invalid_inode, create_action, unlink_action}
 use Rattle.names.specs.Listed.{names_in}
 use Rattle.checks.specs.declared.TwoFolders.{TwoFolders}
@@ -52,6 +52,9 @@ module _ (v : List ℕ) where
   -- two names, first stage
   unfoldable pub given_first : TwoFolders → List ℕ → List ℕ → Checks
   given_first f a b = (not (name_ok a && new_name_ok b), bad_name) ∷ (none_there u P N f.old || none_there u P N f.new, not_there) ∷ []
+
+  abbrev pub given_comes : TwoFolders → List ℕ → List ℕ → Answer Nothing
+  given_comes f a b = first_refusal (given_first f a b) (done record {})
 
   -- where the names a and b lead
   pub record Led (f : TwoFolders) (a b : List ℕ) (k : Leads) : Type 0 where

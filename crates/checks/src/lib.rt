@@ -10,13 +10,14 @@ ghost use Rattle.model.specs.Answer.{done, first_refusal};
 ghost use Rattle.names.specs.Inodes.{Readable};
 ghost use Rattle.names.specs.Listed.{Good, Lists};
 ghost use Rattle.survey.specs.Surveyed.{TreeOf};
-ghost use Rattle.answer.specs.Meaning.{meaning, numbered};
-ghost use Rattle.checks.specs.Names.{leads_in, new_inode, find_first, create_first, unlink_first, absent_in, has_names_in, given_first};
+ghost use Rattle.answer.specs.Meaning.{meaning, done_meaning, numbered, plain};
+ghost use Rattle.checks.specs.Names.{leads_in, new_inode, find_first, create_first, unlink_first, absent_in, has_names_in, given_comes};
 ghost use Rattle.checks.specs.Names.{Led, Inodes, are_folders, link_last, are_same, is_onto, is_into, rename_comes};
 
-use answer::Answer;
+use answer::Refusal;
 use layout::{MOST_NAMES, Sizes};
 use names::FolderNames;
+use tree::Tree;
 
 // The folders of a call with two names: those of the old name and of the new.
 #[derive(Clone, Copy)]
@@ -46,139 +47,133 @@ fn of_root(count: usize) -> FolderNames
 
 // Answers whether a name that leads to inode k in inode d, and to 0 where it does not stand there, counts as absent. In a file none does.
 // Example: is_absent(v, 0, 0) is true and is_absent(v, 0, 3) false.
+#[tactic(auto, unfolding(crate::specs::Names::absent_in))]
 fn is_absent(v: &[u8], d: usize, k: usize) -> bool
     requires { Readable (word v.now) (length v.now) (word v.now 1) × (d < word v.now 1) }
     ensures { result ≡ absent_in v.now d k }
 {
-    if k != 0 {
-        return false;
-    }
-    names::is_directory(v, d)
+    k == 0 && names::is_directory(v, d)
 }
 
-// Answers Number with the inode that a name of folder d leads to; BadName, NotThere where the folder or the name is not there, or WrongType
+// Answers the inode that a name of folder d leads to; refuses with BadName, NotThere where the folder or the name is not there, or WrongType
 // where d is a file. The table holds the names of d then, if it is a folder.
-// Example: where "A1" leads to inode 1, find_checks(v, 0, b"A1", places, 1) is Number(1) and find_checks(v, 1, b"A1", places, 1) WrongType.
-pub fn find_checks(v: &[u8], d: usize, name: &[u8], places: &mut [u16; 224], count: usize) -> Answer
+// Example: where "A1" leads to inode 1, find_checks(v, 0, b"A1", places, 1) is Ok(1) and find_checks(v, 1, b"A1", places, 1)
+// Err(Refusal::WrongType).
+#[tactic(auto, unfolding(crate::specs::Names::find_first))]
+pub fn find_checks(
+    v: &[u8],
+    d: usize,
+    name: &[u8],
+    places: &mut [u16; 224],
+    count: usize,
+) -> Result<u64, Refusal>
     requires { Good v.now × Lists v.now root count places.old }
     ensures { (meaning result ≡ numbered (first_refusal (find_first v.now d name.now)
         (done (leads_in v.now d name.now))))
         × (length places.new ≡ 224) }
 {
     if !lookup::is_name(name) {
-        return Answer::BadName;
+        return Err(Refusal::BadName);
     }
     let sizes = Sizes::of(v);
     if !names::is_valid(v, d, sizes.inodes) {
-        return Answer::NotThere;
+        return Err(Refusal::NotThere);
     }
     if !names::is_directory(v, d) {
-        return Answer::WrongType;
+        return Err(Refusal::WrongType);
     }
     let listed = names::turn(v, of_root(count), d, places);
-    let inode = lookup::find_name(v, places, listed.count, name);
-    if inode == 0 {
-        return Answer::NotThere;
-    }
-    Answer::Number(inode)
+    lookup::find_name(v, places, listed.count, name).ok_or(Refusal::NotThere)
 }
 
-// Answers Number with the inode that a new file or folder of this name in folder d gets, the lowest that is not valid; BadName where it may
+// Answers the inode that a new file or folder of this name in folder d gets, the lowest that is not valid; refuses with BadName where it may
 // not be given the name, NotThere where the folder is not there, Taken, WrongType where d is a file, NoInode or DirectoryFull.
-// Example: of a volume just formatted create_checks(v, 0, b"A1", places, 0) is Number(1) and create_checks(v, 0, b".", places, 0) BadName.
+// Example: of a volume just formatted create_checks(v, 0, b"A1", places, 0) is Ok(1) and create_checks(v, 0, b".", places, 0)
+// Err(Refusal::BadName).
+#[tactic(auto, unfolding(model::specs::Calls::create_action))]
 pub fn create_checks(
     v: &[u8],
     d: usize,
     name: &[u8],
     places: &mut [u16; 224],
     count: usize,
-) -> Answer
+) -> Result<u64, Refusal>
     requires { Good v.now × Lists v.now root count places.old }
     ensures { meaning result ≡ numbered (first_refusal (create_first v.now d name.now)
         (done (new_inode v.now))) }
 {
     if !lookup::is_new_name(name) {
-        return Answer::BadName;
+        return Err(Refusal::BadName);
     }
     let sizes = Sizes::of(v);
     if !names::is_valid(v, d, sizes.inodes) {
-        return Answer::NotThere;
+        return Err(Refusal::NotThere);
     }
-    let listed = names::turn(v, of_root(count), d, places);
-    let n = listed.count;
-    if lookup::find_name(v, places, n, name) != 0 {
-        return Answer::Taken;
+    let n = names::turn(v, of_root(count), d, places).count;
+    if lookup::find_name(v, places, n, name).is_some() {
+        return Err(Refusal::Taken);
     }
     if !names::is_directory(v, d) {
-        return Answer::WrongType;
+        return Err(Refusal::WrongType);
     }
-    let inode = names::free_inode(v, sizes.inodes as u64);
-    if inode == 0 {
-        return Answer::NoInode;
-    }
+    let inode = names::free_inode(v, sizes.inodes as u64).ok_or(Refusal::NoInode)?;
     if MOST_NAMES <= n {
-        return Answer::DirectoryFull;
+        return Err(Refusal::DirectoryFull);
     }
-    Answer::Number(inode)
+    Ok(inode)
 }
 
 // Answers whether inode k is a folder that has names. The table holds anything then.
 // Example: where inode 3 is a file, has_names(v, 3, places) is false.
+#[tactic(auto, unfolding(crate::specs::Names::has_names_in))]
 fn has_names(v: &[u8], k: usize, places: &mut [u16; 224]) -> bool
     requires { Good v.now × (length places.old ≡ 224) }
     ensures { result ≡ has_names_in v.now k }
 {
-    let listed = names::list_names(v, k, places);
-    listed.count != 0
+    names::list_names(v, k, places).count != 0
 }
 
-// Answers Number with the inode that a name of folder d leads to; BadName, NotThere, WrongType as `find_checks`, or NotEmpty where it is a
-// folder that has names.
-// Example: where "A1" leads to inode 1, a file, unlink_checks(v, 0, b"A1", places, 1) is Number(1); unlink_checks(v, 0, b"A2", places, 1)
-// is NotThere.
+// Answers the inode that a name of folder d leads to; refuses with BadName, NotThere or WrongType as `find_checks` does, or with NotEmpty
+// where it is a folder that has names.
+// Example: where "A1" leads to inode 1, a file, unlink_checks(v, 0, b"A1", places, 1) is Ok(1); unlink_checks(v, 0, b"A2", places, 1)
+// is Err(Refusal::NotThere).
 pub fn unlink_checks(
     v: &[u8],
     d: usize,
     name: &[u8],
     places: &mut [u16; 224],
     count: usize,
-) -> Answer
+) -> Result<u64, Refusal>
     requires { Good v.now × Lists v.now root count places.old }
     ensures { meaning result ≡ numbered (first_refusal (unlink_first v.now d name.now)
         (done (leads_in v.now d name.now))) }
 {
-    let found = find_checks(v, d, name, places, count);
-    let Answer::Number(inode) = found else {
-        return found;
-    };
+    let inode = find_checks(v, d, name, places, count)?;
     if has_names(v, inode as usize, places) {
-        return Answer::NotEmpty;
+        return Err(Refusal::NotEmpty);
     }
-    Answer::Number(inode)
+    Ok(inode)
 }
 
-// Answers Number where two names may be given and their folders are there: BadName where the old one is no name, or nothing may be given
-// the new one; NotThere where one of the folders is out of range or not valid.
-// Example: of a volume just formatted given(v, TwoFolders { old: 0, new: 0 }, b"A1", b"A2") is Number(0), and of b"A1" and b"." BadName.
-pub fn given(v: &[u8], folders: TwoFolders, old: &[u8], new: &[u8]) -> Answer
+// Answers Ok where two names may be given and their folders are there; refuses with BadName where the old one is no name, or nothing may be
+// given the new one, and with NotThere where one of the folders is out of range or not valid.
+// Example: of a volume just formatted given(v, TwoFolders { old: 0, new: 0 }, b"A1", b"A2") is Ok(()), and of b"A1" and b"."
+// Err(Refusal::BadName).
+#[tactic(auto, unfolding(crate::specs::Names::given_first))]
+pub fn given(v: &[u8], folders: TwoFolders, old: &[u8], new: &[u8]) -> Result<(), Refusal>
     requires { Good v.now }
-    ensures { meaning result ≡ numbered (first_refusal (given_first v.now folders old.now new.now)
-        (done 0)) }
+    ensures { done_meaning result ≡ plain (given_comes v.now folders old.now new.now) }
 {
-    if !lookup::is_name(old) {
-        return Answer::BadName;
-    }
-    if !lookup::is_new_name(new) {
-        return Answer::BadName;
+    if !lookup::is_name(old) || !lookup::is_new_name(new) {
+        return Err(Refusal::BadName);
     }
     let sizes = Sizes::of(v);
-    if !names::is_valid(v, folders.old, sizes.inodes) {
-        return Answer::NotThere;
+    if !names::is_valid(v, folders.old, sizes.inodes)
+        || !names::is_valid(v, folders.new, sizes.inodes)
+    {
+        return Err(Refusal::NotThere);
     }
-    if !names::is_valid(v, folders.new, sizes.inodes) {
-        return Answer::NotThere;
-    }
-    Answer::Number(0)
+    Ok(())
 }
 
 // Answers where two names lead, each in its folder; the table holds the names of the new one's folder then.
@@ -198,91 +193,77 @@ pub fn look_up(
     let a = names::turn(v, of_root(count), folders.old, places);
     let i = lookup::find_name(v, places, a.count, old);
     let b = names::turn(v, a, folders.new, places);
-    let n = b.count;
-    let j = lookup::find_name(v, places, n, new);
+    let j = lookup::find_name(v, places, b.count, new);
     Leads {
-        old: i as usize,
-        new: j as usize,
-        count: n,
+        old: i.unwrap_or(0) as usize,
+        new: j.unwrap_or(0) as usize,
+        count: b.count,
     }
 }
 
 // Answers whether both inodes given as folders are folders.
 // Example: of inode 0 twice it is true.
+#[tactic(auto, unfolding(crate::specs::Names::are_folders))]
 fn are_directories(v: &[u8], folders: TwoFolders) -> bool
     requires { Good v.now × (folders.old < word v.now 1) × (folders.new < word v.now 1) }
     ensures { result ≡ are_folders v.now folders }
 {
-    if !names::is_directory(v, folders.old) {
-        return false;
-    }
-    names::is_directory(v, folders.new)
+    names::is_directory(v, folders.old) && names::is_directory(v, folders.new)
 }
 
-// Answers Number with the inode that the old name leads to; NotThere where it is absent, Taken where the new one stands, WrongType where a
+// Answers the inode that the old name leads to; refuses with NotThere where it is absent, Taken where the new one stands, WrongType where a
 // file is given as a folder or the old name leads to a folder, or DirectoryFull.
-// Example: where "A1" leads to inode 1, a file, and is the only name, names "A1" and "A2" are Number(1), and "A1" and "A1" Taken.
-pub fn link_checks(v: &[u8], folders: TwoFolders, leads: Leads) -> Answer
+// Example: where "A1" leads to inode 1, a file, and is the only name, names "A1" and "A2" are Ok(1), and "A1" and "A1" Err(Refusal::Taken).
+#[tactic(auto, unfolding(crate::specs::Names::link_last))]
+pub fn link_checks(v: &[u8], folders: TwoFolders, leads: Leads) -> Result<u64, Refusal>
     requires { Good v.now × Inodes v.now folders leads }
     ensures { meaning result ≡ numbered (first_refusal (link_last v.now folders leads) (done leads.old)) }
 {
     let inode = leads.old;
     if is_absent(v, folders.old, inode) {
-        return Answer::NotThere;
+        return Err(Refusal::NotThere);
     }
     if leads.new != 0 {
-        return Answer::Taken;
+        return Err(Refusal::Taken);
     }
-    if !are_directories(v, folders) {
-        return Answer::WrongType;
-    }
-    if names::is_directory(v, inode) {
-        return Answer::WrongType;
+    if !are_directories(v, folders) || names::is_directory(v, inode) {
+        return Err(Refusal::WrongType);
     }
     if MOST_NAMES <= leads.count {
-        return Answer::DirectoryFull;
+        return Err(Refusal::DirectoryFull);
     }
-    Answer::Number(inode as u64)
+    Ok(inode as u64)
 }
 
 // Answers whether both names lead to one inode.
 // Example: where "A1" and "A2" lead to inode 1, it is true of these two.
+#[tactic(auto, unfolding(crate::specs::Names::are_same))]
 fn is_same(v: &[u8], folders: TwoFolders, leads: Leads) -> bool
     requires { Good v.now × Inodes v.now folders leads }
     ensures { result ≡ are_same v.now folders leads }
 {
-    if !are_directories(v, folders) {
-        return false;
-    }
-    leads.old == leads.new
+    are_directories(v, folders) && leads.old == leads.new
 }
 
 // Answers whether a rename would put a name onto a folder, or a folder onto a name that stands.
 // Example: where the new name does not stand, it is false.
+#[tactic(auto, unfolding(crate::specs::Names::is_onto))]
 fn is_onto(v: &[u8], leads: Leads) -> bool
     requires { Good v.now × (leads.old < word v.now 1) × (leads.new < word v.now 1) }
     ensures { result ≡ is_onto v.now leads }
 {
-    if leads.new == 0 {
-        return false;
-    }
-    if names::is_directory(v, leads.old) {
-        return true;
-    }
-    names::is_directory(v, leads.new)
+    leads.new != 0 && (names::is_directory(v, leads.old) || names::is_directory(v, leads.new))
 }
 
 // Answers whether the old name leads to a folder that would move into itself or beneath itself.
 // Example: where it leads to a file, it is false.
-fn is_into_itself(v: &[u8], folders: TwoFolders, leads: Leads, tree: &[u16; 256]) -> bool
+#[tactic(auto, unfolding(crate::specs::Names::is_into))]
+fn is_into_itself(v: &[u8], folders: TwoFolders, leads: Leads, tree: &Tree) -> bool
     requires { Good v.now × TreeOf (word v.now) tree.now × Inodes v.now folders leads }
     ensures { result ≡ is_into v.now folders leads }
 {
-    if !names::is_directory(v, leads.old) {
-        return false;
-    }
-    let sizes = Sizes::of(v);
-    tree::is_beneath(tree, leads.old, folders.new, sizes.inodes)
+    names::is_directory(v, leads.old)
+        && tree.is_beneath(leads.old, folders.new, Sizes::of(v).inodes)
 }
 
 // Answers whether a move would give the new name's folder a 225th name.
@@ -290,41 +271,37 @@ fn is_into_itself(v: &[u8], folders: TwoFolders, leads: Leads, tree: &[u16; 256]
 fn is_overfull(folders: TwoFolders, leads: Leads) -> bool
     ensures { result ≡ not (eqb folders.old folders.new) && not (not (eqb leads.new 0)) && leb most_names leads.count }
 {
-    if folders.old == folders.new {
-        return false;
-    }
-    if leads.new != 0 {
-        return false;
-    }
-    MOST_NAMES <= leads.count
+    folders.old != folders.new && leads.new == 0 && MOST_NAMES <= leads.count
 }
 
-// Answers Number with the inode that the old name leads to, and Number(0) where both names lead to one inode, so that nothing changes;
-// NotThere where the old name is absent, WrongType where a file is given as a folder or a folder is in the way, IntoItself or
-// DirectoryFull.
-// Example: where "A1" leads to inode 1 and is the only name, names "A1" and "A2" are Number(1), "A1" and "A1" Number(0) and "A2" and "A1"
-// NotThere.
-pub fn rename_checks(v: &[u8], folders: TwoFolders, leads: Leads, tree: &[u16; 256]) -> Answer
+// Answers the inode that the old name leads to, and 0 where both names lead to one inode, so that nothing changes; refuses with NotThere
+// where the old name is absent, WrongType where a file is given as a folder or a folder is in the way, IntoItself or DirectoryFull.
+// Example: where "A1" leads to inode 1 and is the only name, names "A1" and "A2" are Ok(1), "A1" and "A1" Ok(0) and "A2" and "A1"
+// Err(Refusal::NotThere).
+#[tactic(auto, unfolding(crate::specs::Names::rename_comes, crate::specs::Names::rename_last))]
+pub fn rename_checks(
+    v: &[u8],
+    folders: TwoFolders,
+    leads: Leads,
+    tree: &Tree,
+) -> Result<u64, Refusal>
     requires { Good v.now × TreeOf (word v.now) tree.now × Inodes v.now folders leads }
     ensures { meaning result ≡ numbered (rename_comes v.now folders leads) }
 {
     if is_absent(v, folders.old, leads.old) {
-        return Answer::NotThere;
+        return Err(Refusal::NotThere);
     }
     if is_same(v, folders, leads) {
-        return Answer::Number(0);
+        return Ok(0);
     }
-    if !are_directories(v, folders) {
-        return Answer::WrongType;
-    }
-    if is_onto(v, leads) {
-        return Answer::WrongType;
+    if !are_directories(v, folders) || is_onto(v, leads) {
+        return Err(Refusal::WrongType);
     }
     if is_into_itself(v, folders, leads, tree) {
-        return Answer::IntoItself;
+        return Err(Refusal::IntoItself);
     }
     if is_overfull(folders, leads) {
-        return Answer::DirectoryFull;
+        return Err(Refusal::DirectoryFull);
     }
-    Answer::Number(leads.old as u64)
+    Ok(leads.old as u64)
 }

@@ -1,5 +1,6 @@
 -- Clean behind the gate: an inode that is not there is refused, an empty log is left, and any other log is an append that writes it anew.
 use Rattle.model.proofs.Prelude.{ℕ, ◌+◌, ◌*◌, ◌/◌, ◌≤◌, ◌<◌, ◌≡◌, refl, sym, ◌∙◌, Bool, true, false, not, ◌||◌, List, [], ◌∷◌, arith, le-leb, lt-leb, lt-ltb, le-ltb, leb-false, eq-eqb, ne_eqb, not-false, leb, length, take, length-take, length-take-le}
+use Rattle.std.specs.Prelude.{Result, Ok, Err, IsErrAnd}
 use Rattle.model.specs.Words.{Mem, word}
 use Rattle.model.specs.Layout.{tail_word, is_directory}
 use Rattle.model.specs.Journal.{view}
@@ -7,7 +8,6 @@ use Rattle.model.specs.State.{names_of, file_of}
 use Rattle.model.specs.Accept.{is_valid, folders_of, log_ok}
 use Rattle.model.specs.FileMap.{clean}
 use Rattle.model.specs.Stores.{no_words, store_list}
-use Rattle.model.specs.Answer.{not_there}
 use Rattle.model.specs.Calls.{clean_file, clean_names, clean_entries, clean_action, entries_only, none_there, checks, groups, action, action_checks, action_groups}
 use Rattle.model.proofs.Tests.{by_lt, or_false}
 use Rattle.model.proofs.Frame.View.{log_ok_lem}
@@ -22,9 +22,8 @@ use Rattle.files.specs.State.{file_from}
 use Rattle.entries.specs.Table.{entries_of, Holds}
 use Rattle.entries.proofs.Entries.{entries_take}
 use Rattle.answer.specs.Comes.{Comes, came_to}
-use Rattle.answer.specs.declared.Answer.{Answer}
-use Rattle.answer.specs.declared.Answer.TheVariants.{Number, NotThere}
-use Rattle.answer.proofs.Codes.{NoNumber}
+use Rattle.answer.specs.declared.Refusal.{Refusal}
+use Rattle.answer.specs.declared.Refusal.TheVariants.{NotThere}
 use Rattle.answer.proofs.Coming.{comes_refused, comes_none, comes_as}
 use Rattle.append.specs.declared.Append.{Append}
 use Rattle.append.specs.Appended.{plain, action_of, outcome, Ready as AppendReady}
@@ -36,7 +35,8 @@ use Rattle.gate.proofs.Lists.{fill_refused, fill_behind, fill_long, fill_closed,
 use Rattle.cleaning.specs.Cleanable.{Cleanable, Checked}
 
 -- the first words of a table are as many as its first entries take
-pub slice_long : (ws₀ ws : List ℕ) (r : ℕ) (es : List (List ℕ)) → Holds ws₀ ws r es → length ws₀ ≡ 1792 → r ≤ 224 → 8 * r ≡ length (take (8 * r) ws)
+pub slice_long : (ws₀ ws : List ℕ) (r : ℕ) (es : List (List ℕ)) → Holds ws₀ ws r es → length ws₀ ≡ 1792 → r ≤ 224
+    → 8 * r ≡ length (take (8 * r) ws)
 slice_long ws₀ ws r es h e f = sym (length-take-le (8 * r) ws (omega (arith, h.long)))
 
 -- the append that writes the log of inode k anew, and what it comes to
@@ -46,7 +46,13 @@ anew_append k = record { log = k; file = 0; size = 0; second = 0; moved = 0; oth
 anew_outcome : (v : List ℕ) (k : ℕ) (ws : List ℕ) (es : List (List ℕ)) → entries_of ws 0 (length ws / 8) ≡ es
     → outcome v (action_of (anew_append k) ws []) ≡ outcome v (plain false (entries_only true k es ∷ []) no_words [])
 anew_outcome v k ws es p =
-    rw (one_log (anew_append k) ws [] refl, asked_only (anew_append k) ws refl refl refl, p, zeroed_none (anew_append k) refl, also_nothing (anew_append k) refl)
+    rw (
+      one_log (anew_append k) ws [] refl,
+      asked_only (anew_append k) ws refl refl refl,
+      p,
+      zeroed_none (anew_append k) refl,
+      also_nothing (anew_append k) refl,
+    )
 
 -- `clean_entries`
 module _ (v : List ℕ) (n : ℕ) (places : List ℕ) (k : ℕ) (c : Cleanable v n places k) where
@@ -131,7 +137,7 @@ module _ (v l : List ℕ) (n : ℕ) (places marks : List ℕ) (k : ℕ) (c : Cle
     tail_is : x ≡ m (tail_word k)
     tail_is = rw (← i) b
 
-    pub clean_empty : x ≡ 0 → Comes (came_to v l (clean k)) l (Number 0) l
+    pub clean_empty : x ≡ 0 → Comes (came_to v l (clean k)) l (Ok 0) l
     unfolding outcome action_checks action_groups clean_action store_list
     clean_empty z = comes_none (came_to v l (clean k)) l (g.comes ∙ rw (there, eq-eqb (m (tail_word k)) 0 (sym tail_is ∙ z)))
 
@@ -143,7 +149,7 @@ module _ (v l : List ℕ) (n : ℕ) (places marks : List ℕ) (k : ℕ) (c : Cle
           let e : length (take (8 * r) ws) / 8 ≡ r = omega (arith, slice_long ws₀ ws r _ h long few) in
           rw e (entries_take ws (8 * r) 0 r (omega arith) ∙ (rw same_view at h.entries))
 
-      pub anew_comes : (t : Answer) (l' : List ℕ) → Comes (outcome v (action_of o (take (8 * r) ws) [])) l t l'
+      pub anew_comes : (t : Result ℕ Refusal) (l' : List ℕ) → Comes (outcome v (action_of o (take (8 * r) ws) [])) l t l'
           → Comes (came_to v l (clean k)) l t l'
       unfolding outcome action_checks action_groups clean_action
       anew_comes t l' d =
@@ -151,31 +157,31 @@ module _ (v l : List ℕ) (n : ℕ) (places marks : List ℕ) (k : ℕ) (c : Cle
           (g.comes ∙ rw (there, ne_eqb (m (tail_word k)) 0 (λ j. z (tail_is ∙ j)), f)
           (sym (anew_outcome v k (take (8 * r) ws) (clean_entries m (m 0) (m 1) k) table_entries))) d
 
--- `clean`: r, places, marks and tree are what the gate answered and left
-module _ (v l : List ℕ) (r : Answer) (places marks tree : List ℕ)
-    (g : Gated v (fill_checks (length v) (word v) (length l)) r places marks tree) where
-  pub gate_told : NoNumber r → (k : ℕ) → Comes (came_to v l (clean k)) l r l
-  gate_told o k = fill_refused v l (clean k) refl r places marks tree g o
+-- `clean`: places, marks and tree are what the gate left
+module _ (v l places marks tree : List ℕ) where
+  pub gate_told : (e : Refusal) (r : Result ℕ Refusal) → IsErrAnd r (λ d. d ≡ e)
+      → Gated v (fill_checks (length v) (word v) (length l)) (Err e) places marks tree → (k : ℕ) → Comes (came_to v l (clean k)) l r l
+  gate_told e r p g k = fill_refused v l (clean k) refl places marks tree e r p g
 
-  module _ (n : ℕ) (e : r ≡ Number n) where
+  module _ (n : ℕ) (g : Gated v (fill_checks (length v) (word v) (length l)) (Ok n) places marks tree) where
     pub clean_long : 16 ≤ length v
-    clean_long = good_long v (gate_good v _ r places marks tree g n e)
+    clean_long = good_long v (gate_good v _ n places marks tree g)
 
     pub clean_good : Good v
-    clean_good = gate_good v _ r places marks tree g n e
+    clean_good = gate_good v _ n places marks tree g
 
     pub clean_readable : (N : ℕ) → N ≡ word v 1 → Readable (word v) (length v) N
     clean_readable N q = good_readable v clean_good N q
 
     pub clean_turned : Turned v 0 (record { folder = 0; count = n }) places
-    clean_turned = gate_turned v _ r places marks tree g n e
+    clean_turned = gate_turned v _ n places marks tree g
 
     view_here : view (word v) ≡ word v
-    view_here = fill_view v l r places marks tree g n e
+    view_here = fill_view v l n places marks tree g
 
     behind : (k : ℕ) → came_to v l (clean k) ≡ outcome v (clean_action (word v) (word v 0) (word v 1) k)
     unfolding checks groups action outcome
-    behind k = fill_behind v l (clean k) refl r places marks tree g n e ∙ rw view_here
+    behind k = fill_behind v l (clean k) refl places marks tree n g ∙ rw view_here
 
     -- k is the inode, N the count of inodes as the code read it, and d what `is_valid` answered
     module _ (k N : ℕ) (q : N ≡ word v 1) (d : Bool) (a : d ≡ valid_in (view (word v)) N k) where
@@ -186,9 +192,9 @@ module _ (v l : List ℕ) (r : Answer) (places marks tree : List ℕ)
           by_lt k (word v 1) (λ h. rw (lt-leb (word v 1) k h, b, lt-ltb k (word v 1) h))
           (λ h. rw (le-leb (word v 1) k h, b, le-ltb k (word v 1) h))
 
-      pub clean_absent : not d ≡ true → Comes (came_to v l (clean k)) l NotThere l
+      pub clean_absent : not d ≡ true → Comes (came_to v l (clean k)) l (Err NotThere) l
       unfolding outcome action_checks clean_action none_there
-      clean_absent y = comes_refused (came_to v l (clean k)) l NotThere not_there refl (behind k ∙ rw (← absent_is, y))
+      clean_absent y = comes_refused (came_to v l (clean k)) l NotThere (behind k ∙ rw (← absent_is, y))
 
       module _ (y : not d ≡ false) where
         found : (leb (word v 1) k ≡ false) × (not (is_valid (word v) k) ≡ false)
@@ -206,4 +212,4 @@ module _ (v l : List ℕ) (r : Answer) (places marks tree : List ℕ)
 
     pub is_checked : (k : ℕ) → Checked v l marks k
     is_checked k =
-        record { closed = fill_closed v l r places marks tree g n e; room = fill_long v l r places marks tree g n e; comes = behind k }
+        record { closed = fill_closed v l n places marks tree g; room = fill_long v l n places marks tree g; comes = behind k }

@@ -12,11 +12,13 @@ ghost use Rattle.entries.specs.Table.{Holds};
 ghost use Rattle.answer.specs.Comes.{Fills};
 ghost use Rattle.cleaning.specs.Cleanable.{Cleanable, Checked};
 
-use answer::Answer;
+use answer::Refusal;
 use append::Append;
 use journal::Position;
-use layout::Sizes;
+use layout::{Kind, Sizes};
+use marks::Marks;
 use names::FolderNames;
+use tree::Tree;
 
 // Lays the entries of a clean log of inode k into the table, and answers how many: those of a folder's names, which stand at the first
 // count places, or those of a file.
@@ -32,26 +34,26 @@ fn clean_entries(v: &[u8], places: &[u16; 224], count: usize, k: usize, words: &
     }
     let sizes = Sizes::of(v);
     let mut table = [0u64; 128];
-    let size = files::judged_file(v, k, sizes.pages, sizes.inodes, &mut table);
+    let size = files::judged_file(v, k, sizes, &mut table);
     entries::clean_file(&table, size, words)
 }
 
 // Does what clean does of a valid inode k, whose names, if it is a folder, stand at the first count places: fills the list and answers
-// Number with the count of words filled, or NoSpace.
-// Example: of a volume just formatted clean_log(v, places, marks, 0, 0, list) is Number(0).
+// the count of words filled, or refuses by NoSpace.
+// Example: of a volume just formatted clean_log(v, places, marks, 0, 0, list) is Ok(0).
 fn clean_log(
     v: &[u8],
     places: &[u16; 224],
-    marks: &mut [u8; 4096],
+    marks: &mut Marks,
     count: usize,
     k: usize,
     list: &mut [u64],
-) -> Answer
+) -> Result<u64, Refusal>
     requires { Cleanable v.now count places.now k × Checked v.now list.old marks.old k }
     ensures { Fills v.now list.old (clean k) result list.new }
 {
     if words::word_at(v, layout::tail_word(k)) == 0 {
-        return Answer::Number(0);
+        return Ok(0);
     }
     let mut words = [0u64; 1792];
     let n = layout::ENTRY_WORDS * clean_entries(v, places, count, k, &mut words);
@@ -65,35 +67,32 @@ fn clean_log(
         moved: 0,
         other: 0,
         valid: 0,
-        kind: layout::FILE_TYPE,
+        kind: Kind::File.into(),
         keeps: false,
     };
     append::make(v, marks, a, &words[..n], &none[..0], list)
 }
 
-// Fills the list that writes an inode's log anew, with the entries that its state needs and no others, and answers Number with the
-// count of words filled: 0 where the log is empty.
+// Fills the list that writes an inode's log anew, with the entries that its state needs and no others, and answers the count of words
+// filled: 0 where the log is empty.
 // Refusals: ShortMemory, NoVolume, Damaged, JournalOpen, NotThere, NoSpace.
-// Example: of a volume just formatted with 8 inodes clean(v, 0, list) is Number(0), and clean(v, 1, list) and clean(v, 8, list) are
-// NotThere; where file 1 has one page, clean(v, 1, list) is Number(40).
-pub fn clean(v: &[u8], inode: u64, list: &mut [u64]) -> Answer
+// Example: of a volume just formatted with 8 inodes clean(v, 0, list) is Ok(0), and clean(v, 1, list) and clean(v, 8, list) are
+// Err(Refusal::NotThere); where file 1 has one page, clean(v, 1, list) is Ok(40).
+pub fn clean(v: &[u8], inode: u64, list: &mut [u64]) -> Result<u64, Refusal>
     ensures { Fills v.now list.old (clean inode) result list.new }
 {
     let mut places = [0u16; 224];
-    let mut marks = [0u8; 4096];
-    let mut tree = [0u16; 256];
-    let gate = gate::filling(v, list.len(), &mut places, &mut marks, &mut tree);
-    let Answer::Number(count) = gate else {
-        return gate;
-    };
+    let mut marks = Marks::new();
+    let mut tree = Tree::new();
+    let count = gate::filling(v, list.len(), &mut places, &mut marks, &mut tree)?;
     let k = inode as usize;
     let sizes = Sizes::of(v);
     if !names::is_valid(v, k, sizes.inodes) {
-        return Answer::NotThere;
+        return Err(Refusal::NotThere);
     }
     let root = FolderNames {
         folder: layout::ROOT,
-        count: count as usize,
+        count: count,
     };
     let listed = names::turn(v, root, k, &mut places);
     clean_log(v, &places, &mut marks, listed.count, k, list)
@@ -106,38 +105,33 @@ fn put_back(v: &[u8], list: &mut [u64]) -> usize
     ensures { Added list.old 0 0 (old_values (word v.now)) result list.new × (result ≤ 32) }
 {
     let mut p = Position::new(words::word_at(v, layout::DEQUEUE_WORD));
-    let mut left = journal::open_count(v);
     let mut e: usize = 0;
-    while 0 < left {
+    for _ in 0..journal::open_count(v) {
         e = stores::put(list, 0, e, journal::target_at(v, p), journal::old_at(v, p));
         p = p.next();
-        left = left - 1;
     }
     e
 }
 
-// Fills the list that puts the old values of the journal's open entries back, and answers Number with the count of words filled: 0
-// where no entry is open.
+// Fills the list that puts the old values of the journal's open entries back, and answers the count of words filled: 0 where no entry is
+// open.
 // Refusals: ShortMemory, NoVolume, Damaged.
-// Example: of a volume just formatted recover(v, list) is Number(0); with one entry open it is Number(8).
-pub fn recover(v: &[u8], list: &mut [u64]) -> Answer
+// Example: of a volume just formatted recover(v, list) is Ok(0); with one entry open it is Ok(8).
+pub fn recover(v: &[u8], list: &mut [u64]) -> Result<u64, Refusal>
     ensures { Fills v.now list.old recover result list.new }
 {
     if list.len() < layout::LIST_WORDS {
-        return Answer::ShortMemory;
+        return Err(Refusal::ShortMemory);
     }
     let mut places = [0u16; 224];
-    let mut marks = [0u8; 4096];
-    let mut tree = [0u16; 256];
-    let gate = gate::judged(v, &mut places, &mut marks, &mut tree);
-    let Answer::Number(_) = gate else {
-        return gate;
-    };
+    let mut marks = Marks::new();
+    let mut tree = Tree::new();
+    gate::judged(v, &mut places, &mut marks, &mut tree)?;
     if !journal::is_open(v) {
-        return Answer::Number(0);
+        return Ok(0);
     }
     let end = put_back(v, list);
     let enqueue = words::word_at(v, layout::ENQUEUE_WORD);
     let close = [layout::DEQUEUE_WORD as u64, enqueue];
-    Answer::Number(commit::commit(v, list, end, &close) as u64)
+    Ok(commit::commit(v, list, end, &close) as u64)
 }

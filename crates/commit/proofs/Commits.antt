@@ -1,5 +1,6 @@
 -- The words to commit, one after the other: each adds its journal pair to the first group and itself to its own group.
 use Rattle.model.proofs.Prelude.{ℕ, zero, suc, ◌+◌, ◌-◌, ◌*◌, ◌/◌, ◌%◌, ◌≤◌, ◌<◌, ◌≡◌, refl, sym, ap, ◌∙◌, fun_ext, List, [], ◌∷◌, ◌++◌, append_assoc, none, arith, length, get_or}
+use Rattle.std.specs.Simd.{first_chunks}
 use Rattle.model.specs.Words.{Mem, word}
 use Rattle.model.specs.Journal.{dequeue_word, enqueue_word, target_word, old_word, next_position}
 use Rattle.model.specs.Stores.{Stores, one_word, both, fence, listed, store_list}
@@ -10,13 +11,10 @@ use Rattle.stores.specs.Added.{Added, Adding}
 use Rattle.stores.proofs.Emitting.{emitted_both}
 use Rattle.stores.proofs.Listed.{listed_one}
 use Rattle.stores.proofs.Groups.{first_assoc, added_both, added_none, group_of, adding_all, adding_next}
+use Rattle.pairs.proofs.Chunks.{pair_index, pair_value}
 use Rattle.commit.specs.Commit.{changes_from, changes_of, logged, Pairs, Committed}
 
 -- `put_one`
-pub one_put : (l m o q : List ℕ) (at a b r w x : ℕ) → Emitted l at (fence ∷ 0 ∷ []) a m → Emitted m a (w ∷ x ∷ []) b o → Emitted o b (fence ∷ 0 ∷ []) r q
-    → Emitted l at (fence ∷ 0 ∷ w ∷ x ∷ fence ∷ 0 ∷ []) r q
-one_put l m o q at a b r w x d e f = emitted_both (emitted_both d e) f
-
 pub one_end : (l m : List ℕ) (at r w x n : ℕ) → Emitted l at (fence ∷ 0 ∷ w ∷ x ∷ fence ∷ 0 ∷ []) r m → at + 6 ≤ n → r ≤ n
 one_end l m at r w x n e h = omega (arith, e.end)
 
@@ -57,20 +55,23 @@ no_pairs : (u : Mem) (e : ℕ) → journal_pairs u e [] ≡ (λ w. none)
 unfolding journal_pairs
 no_pairs u e = refl
 
-module _ (u : Mem) (l c : List ℕ) (end i n : ℕ) where
+module _ (u : Mem) (l c : List ℕ) (end i : ℕ) where
   -- the list is m by now, its group ends at e, and the changes from the j-th on are to log, from position k on
   abbrev pub Logging : List ℕ → ℕ → ℕ → ℕ → Type 0
-  Logging m e k j = Adding l 0 end (journal_pairs u i (changes_from c 0 n)) m e (journal_pairs u k (changes_from c j (n - j)))
+  Logging m e k j = Adding l 0 end (journal_pairs u i (changes_of c)) m e (journal_pairs u k (changes_from c j (length c / 2 - j)))
 
   pub log_start : Logging l end i 0
-  log_start = rw (all_changes_lem c n) (adding_all l 0 end (journal_pairs u i (changes_from c 0 n)))
+  log_start = rw (all_changes_lem c (length c / 2)) (adding_all l 0 end (journal_pairs u i (changes_of c)))
 
-  module _ (m : List ℕ) (e k j : ℕ) (q : Logging m e k j) where
-    pub log_next : (r : ℕ) (p : List ℕ) (y : ℕ) → j < n → Added m 0 e (logged u k (get_or c (2 * j) 0)) r p → y ≡ next_position k → Logging p r y (j + 1)
-    log_next r p y h a f = rw f (adding_next (rw (next_change c j n h, pairs_next) at q) a)
+  module _ (m : List ℕ) (e k j : ℕ) (q : Logging m e k j) (ps : List (List ℕ)) (z : length ps ≡ length c / 2) where
+    pub log_next : (r : ℕ) (p : List ℕ) (y : ℕ) → ps ≡ first_chunks 2 (length c / 2) c → j < length ps
+        → Added m 0 e (logged u k (get_or (get_or ps j []) 0 0)) r p → y ≡ next_position k → Logging p r y (j + 1)
+    log_next r p y g h a f =
+        let b = rw (pair_index c ps j g (omega arith)) at a in
+        rw f (adding_next (rw (next_change c j (length c / 2) (omega arith), pairs_next) at q) b)
 
-    pub log_done : n ≤ j → Added l 0 end (journal_pairs u i (changes_from c 0 n)) e m
-    log_done h = q.rest (rw (no_change c j n h, no_pairs) (added_none m 0 e))
+    pub log_done : length ps ≤ j → Added l 0 end (journal_pairs u i (changes_of c)) e m
+    log_done h = q.rest (rw (no_change c j (length c / 2) (omega arith), no_pairs) (added_none m 0 e))
 
 -- `put_targets`
 targets_next : (c : Change) (cs : List Change) → targets (c ∷ cs) ≡ both (one_word c.0 c.1) (targets cs)
@@ -81,20 +82,23 @@ no_targets : targets [] ≡ (λ w. none)
 unfolding targets
 no_targets = refl
 
-module _ (l c : List ℕ) (at n : ℕ) where
+module _ (l c : List ℕ) (at : ℕ) where
   -- the list is m by now, its group ends at e, and the changes from the j-th on are to put
   abbrev pub Putting : List ℕ → ℕ → ℕ → Type 0
-  Putting m e j = Adding l at at (targets (changes_from c 0 n)) m e (targets (changes_from c j (n - j)))
+  Putting m e j = Adding l at at (targets (changes_of c)) m e (targets (changes_from c j (length c / 2 - j)))
 
   pub targets_start : Putting l at 0
-  targets_start = rw (all_changes_lem c n) (adding_all l at at (targets (changes_from c 0 n)))
+  targets_start = rw (all_changes_lem c (length c / 2)) (adding_all l at at (targets (changes_of c)))
 
-  module _ (m : List ℕ) (e j : ℕ) (q : Putting m e j) where
-    pub targets_turn : (r : ℕ) (p : List ℕ) → j < n → Added m at e (one_word (get_or c (2 * j) 0) (get_or c (2 * j + 1) 0)) r p → Putting p r (j + 1)
-    targets_turn r p h a = adding_next (rw (next_change c j n h, targets_next) at q) a
+  module _ (m : List ℕ) (e j : ℕ) (q : Putting m e j) (ps : List (List ℕ)) (z : length ps ≡ length c / 2) where
+    pub targets_turn : (r : ℕ) (p : List ℕ) → ps ≡ first_chunks 2 (length c / 2) c → j < length ps
+        → Added m at e (one_word (get_or (get_or ps j []) 0 0) (get_or (get_or ps j []) 1 0)) r p → Putting p r (j + 1)
+    targets_turn r p g h a =
+        let b = rw (pair_index c ps j g (omega arith), pair_value c ps j g (omega arith)) at a in
+        adding_next (rw (next_change c j (length c / 2) (omega arith), targets_next) at q) b
 
-    pub targets_done : n ≤ j → Added l at at (targets (changes_from c 0 n)) e m
-    targets_done h = q.rest (rw (no_change c j n h, no_targets) (added_none m at e))
+    pub targets_done : length ps ≤ j → Added l at at (targets (changes_of c)) e m
+    targets_done h = q.rest (rw (no_change c j (length c / 2) (omega arith), no_targets) (added_none m at e))
 
 -- `commit`
 
@@ -108,16 +112,10 @@ only_changes c W (suc n) j h =
     (only_changes c W n (j + 1) (λ i f g. h i (omega arith) (omega arith))))
 
 module _ (v c : List ℕ) (h : Pairs v c) where
-  open h use {page}
-
-  pub pairs_page : 512 ≤ length v
-  pairs_page = page
-
-  pub pairs_enqueue : word v enqueue_word < 16
-  pairs_enqueue = h.enqueue
-
-  pub pairs_inside : (j : ℕ) → j < length c / 2 → 8 * get_or c (2 * j) 0 + 8 ≤ length v
-  pairs_inside j g = h.inside j g
+  -- ps are its pairs
+  pub pair_inside : (ps : List (List ℕ)) (j : ℕ) → ps ≡ first_chunks 2 (length c / 2) c → length ps ≡ length c / 2 → j < length ps
+      → 8 * get_or (get_or ps j []) 0 0 + 8 ≤ length v
+  pair_inside ps j f m g = let i : j < length c / 2 = omega arith in rw (pair_index c ps j f i) (h.inside j i)
 
   inside : Only (λ w. w < length v / 8) (targets (changes_of c))
   inside = only_changes c (length v / 8) (length c / 2) 0 (λ i f g. let a = h.inside i (omega arith) in omega arith)

@@ -47,14 +47,10 @@ fn log_targets(v: &[u8], list: &mut [u64], end: usize, p: Position, changes: &[u
 {
     let mut q = p;
     let mut e = end;
-    let mut j: usize = 0;
-    let n = changes.len() / 2;
-    while j < n {
-        let a = 2 * j;
-        let t = changes[a];
-        e = log_target(v, list, e, q, t);
+    let (pairs, _) = changes.as_chunks::<2>();
+    for [t, _] in pairs {
+        e = log_target(v, list, e, q, *t);
         q = q.next();
-        j = j + 1;
     }
     e
 }
@@ -67,15 +63,9 @@ fn put_targets(list: &mut [u64], at: usize, changes: &[u64]) -> usize
         × (result ≤ at + length changes.now) }
 {
     let mut e = at;
-    let mut j: usize = 0;
-    let n = changes.len() / 2;
-    while j < n {
-        let a = 2 * j;
-        let b = a + 1;
-        let t = changes[a];
-        let x = changes[b];
-        e = stores::put(list, at, e, t, x);
-        j = j + 1;
+    let (pairs, _) = changes.as_chunks::<2>();
+    for [t, x] in pairs {
+        e = stores::put(list, at, e, *t, *x);
     }
     e
 }

@@ -1,24 +1,7 @@
--- Laws of values laid into a list, by induction on their count: turn by turn, in two parts, element by element, and from the list's start on.
-use Rattle.model.proofs.Prelude.{ℕ, zero, suc, ◌+◌, ◌-◌, ◌≤◌, ◌<◌, ◌≡◌, refl, ◌∙◌, ap, List, [], ◌∷◌, ◌++◌, arith, add-zero, zero-add, sub-one, length, set, drop, get_or, length-set, get_or-set_same, get_or-set_other}
+-- Laws of values laid into a list, by induction on their count: turn by turn, in two parts, element by element, and as a part of the list.
+use Rattle.model.proofs.Prelude.{ℕ, zero, suc, ◌+◌, ◌≤◌, ◌<◌, ◌≡◌, refl, ◌∙◌, ap, List, [], ◌∷◌, ◌++◌, arith, add-zero, zero-add, length, set, take, drop, get_or, length-set, get_or-set_same, get_or-set_other}
 use Rattle.model.specs.Lists.{values_from}
 use Rattle.contents.specs.Laid.{laid}
-
--- A loop's turn and its end: n values from f x on are left to lay, from index i on, and z is what comes of it.
-
-module _ (f : ℕ → ℕ) (l : List ℕ) (i x : ℕ) where
-  pub laid_next : (n y : ℕ) (z : List ℕ) → laid l i f x n ≡ z → 0 < n → y ≡ f x → laid (set l i y) (i + 1) f (x + 1) (n - 1) ≡ z
-  unfolding laid
-  laid_next zero y z a h e = absurd (omega arith)
-  laid_next (suc n) y z a h e = rw (e, sub-one) a
-
-  -- the same where a callee stored the value: l' is what it left
-  pub laid_put : (n y : ℕ) (l' z : List ℕ) → laid l i f x n ≡ z → 0 < n → y ≡ f x → l' ≡ set l i y → laid l' (i + 1) f (x + 1) (n - 1) ≡ z
-  laid_put n y l' z a h e g = rw g (laid_next n y z a h e)
-
-  pub laid_end : (n : ℕ) (z : List ℕ) → laid l i f x n ≡ z → n ≤ 0 → l ≡ z
-  unfolding laid
-  laid_end zero z a h = a
-  laid_end (suc n) z a h = absurd (omega arith)
 
 -- the same values, numbered from x on or from y on
 pub laid_same : (f g : ℕ → ℕ) (n : ℕ) (l : List ℕ) (i x y : ℕ) → ((k : ℕ) → k < n → f (x + k) ≡ g (y + k)) → laid l i f x n ≡ laid l i g y n
@@ -83,3 +66,22 @@ laid_first f zero l x h = refl
 laid_first f (suc n) [] x h = absurd (omega arith)
 laid_first f (suc n) (y ∷ l) x h =
     laid_behind f n (f x) l 0 (x + 1) ∙ ap (λ (r : List ℕ). f x ∷ r) (laid_first f n l (x + 1) (omega arith))
+
+-- the values laid over a part of the list, from index i on
+pub laid_part : (f : ℕ → ℕ) (n : ℕ) (l : List ℕ) (i x : ℕ) → i + n ≤ length l
+    → laid l i f x n ≡ take i l ++ (values_from f x n ++ drop n (drop i l))
+laid_part f n l zero x h = laid_first f n l x (omega arith)
+laid_part f n [] (suc i) x h = absurd (omega arith)
+laid_part f n (y ∷ l) (suc i) x h = laid_behind f n y l i x ∙ ap (λ (r : List ℕ). y ∷ r) (laid_part f n l i x (omega arith))
+
+-- A loop that lays one value each turn: of n values from f x on k are left to lay behind the next, and z is what comes of it.
+pub laid_next : (f : ℕ → ℕ) (l : List ℕ) (i j n k : ℕ) (z : List ℕ) → laid l i f i n ≡ z → k + 1 ≡ n → j ≡ i + 1
+    → laid (set l i (f i)) j f j k ≡ z
+unfolding laid
+laid_next f l i j zero k z a h e = absurd (omega arith)
+laid_next f l i j (suc n) k z a h e = let q : k ≡ n = omega arith in rw (q, e) a
+
+pub laid_end : (f : ℕ → ℕ) (l : List ℕ) (i x n : ℕ) (z : List ℕ) → laid l i f x n ≡ z → n ≤ 0 → l ≡ z
+unfolding laid
+laid_end f l i x zero z a h = a
+laid_end f l i x (suc n) z a h = absurd (omega arith)

@@ -14,17 +14,12 @@ fn word_ok(word: u64, n: u64) -> bool
     ensures { result ≡ word_ok n word }
 {
     let mut x = word;
-    let mut left = n;
-    while 0 < left {
+    for _ in 0..n {
         let b = x % 256;
+        if b == 0 || b == 47 {
+            return false;
+        }
         x = x / 256;
-        left = left - 1;
-        if b == 0 {
-            return false;
-        }
-        if b == 47 {
-            return false;
-        }
     }
     x == 0
 }
@@ -34,13 +29,7 @@ fn word_ok(word: u64, n: u64) -> bool
 fn bytes_in(len: u64, from: u64) -> u64
     ensures { result ≡ bytes_in len from }
 {
-    if len <= from {
-        return 0;
-    }
-    if 8 <= len - from {
-        return 8;
-    }
-    len - from
+    len.saturating_sub(from).min(8)
 }
 
 // Answers whether a name is as it should be: 1 to 32 bytes, none of them 0 or 47, then zeros.
@@ -49,22 +38,12 @@ fn name_ok(name: Name) -> bool
     ensures { result ≡ field_ok name.len (field_of name) }
 {
     let len = name.len;
-    if len < 1 {
-        return false;
-    }
-    if 32 < len {
-        return false;
-    }
-    if !word_ok(name.first, bytes_in(len, 0)) {
-        return false;
-    }
-    if !word_ok(name.second, bytes_in(len, 8)) {
-        return false;
-    }
-    if !word_ok(name.third, bytes_in(len, 16)) {
-        return false;
-    }
-    word_ok(name.fourth, bytes_in(len, 24))
+    1 <= len
+        && len <= 32
+        && word_ok(name.first, bytes_in(len, 0))
+        && word_ok(name.second, bytes_in(len, 8))
+        && word_ok(name.third, bytes_in(len, 16))
+        && word_ok(name.fourth, bytes_in(len, 24))
 }
 
 // Answers whether an entry that adds a name which leads to inode is one that a directory's log may hold.
@@ -72,13 +51,7 @@ fn name_ok(name: Name) -> bool
 fn add_ok(inode: u64, name: Name, inodes: u64) -> bool
     ensures { result ≡ name_entry_ok inodes (add_entry inode name.len (field_of name)) }
 {
-    if inode < 1 {
-        return false;
-    }
-    if inodes <= inode {
-        return false;
-    }
-    name_ok(name)
+    1 <= inode && inode < inodes && name_ok(name)
 }
 
 // Answers whether an entry is one that a directory's log may hold.
@@ -87,15 +60,8 @@ pub fn entry_ok(e: Entry, inodes: usize) -> bool
     ensures { result ≡ name_entry_ok inodes (meant e) }
 {
     match e {
-        Entry::Write {
-            file,
-            page,
-            count,
-            size,
-        } => false,
-        Entry::SetSize(size) => false,
         Entry::Add { inode, name } => add_ok(inode, name, inodes as u64),
         Entry::Remove(name) => name_ok(name),
-        Entry::None => false,
+        Entry::Write { .. } | Entry::SetSize(_) | Entry::None => false,
     }
 }

@@ -370,10 +370,10 @@ module _ (m : Mem) (small : (w : ℕ) → m w < 2 ^ 64) (N : ℕ) where
         rw (map-append, foldl_append, length-append) (omega arith))
         (λ i. too_many (ws ++ (w ∷ [])) rest (index_step m l w) n (o.0 ∙ e) c.1 k.1 (apart_on w ws rest k.0 f) i t))
 
--- how many names the entry at word w brings into an index
+-- whether the entry at word w brings a name into an index
 pub step_taken : (m : Mem) (N w : ℕ) (l : List ℕ) → is_placed w ≡ true → name_entry_ok N (entry_at m w) ≡ true → taken l + 1 < length l
-    → taken (index_step m l w) ≡ taken l + new_by m l (entry_in m w)
-unfolding good new_by index_step indexed_by bit
+    → taken (index_step m l w) ≡ taken l + bit (new_by m l (entry_in m w))
+unfolding good new_by index_step indexed_by
 step_taken m N w l a b room =
     let g : good m N w ≡ true = rw (a, b) in
     let k = placed m N w g in

@@ -1,7 +1,7 @@
 -- What an index tells of a log's names: an entry that adds a name stands exactly if it is the last entry of that name.
 -- m are the volume's words, l the slots of an index, ws the first words of a log's entries.
-use Rattle.std.specs.Prelude.{ℕ, ◌/◌, ◌≤◌, ◌<◌, ◌≡◌, Bool, true, false, List, map, eqb, leb, length, take}
-use Rattle.model.specs.Lists.{bit, all, filter, foldl}
+use Rattle.std.specs.Prelude.{ℕ, ◌/◌, ◌≤◌, ◌<◌, ◌≡◌, Bool, true, false, List, map, eqb, leb, length, take, Option, Some, is_some, IsSome, Result, Err, IsOk, ⊤}
+use Rattle.model.specs.Lists.{all, filter, foldl}
 use Rattle.model.specs.Words.{Mem}
 use Rattle.model.specs.Layout.{most_names}
 use Rattle.model.specs.Entry.{entry_at, name_entry_ok}
@@ -9,9 +9,8 @@ use Rattle.inode_log.specs.Entries.{entry_in}
 use Rattle.inode_log.specs.declared.Entry.{Entry}
 use Rattle.inode_log.specs.declared.Entry.TheVariants.{Write, SetSize, Add, Remove, None}
 use Rattle.index.specs.Index.{held, noted, taken, Slots}
-use Rattle.directory.specs.declared.Indexed.{Indexed}
-use Rattle.directory.specs.declared.Indexed.TheVariants.{Whole, Bad, Full}
-use Rattle.directory.specs.declared.Named.{Named}
+use Rattle.directory.specs.declared.Misfit.{Misfit}
+use Rattle.directory.specs.declared.Misfit.TheVariants.{Bad, Full}
 
 -- the index after an entry at place p was noted
 unfoldable pub indexed_by : Mem → List ℕ → ℕ → Entry → List ℕ
@@ -21,13 +20,13 @@ indexed_by m l p (Add i n) = noted m l n p true
 indexed_by m l p (Remove n) = noted m l n p false
 indexed_by m l p None = l
 
--- how many names are new with it
-unfoldable pub new_by : Mem → List ℕ → Entry → ℕ
-new_by m l (Write f d c s) = 0
-new_by m l (SetSize s) = 0
-new_by m l (Add i n) = bit (eqb (held m l n) 0)
-new_by m l (Remove n) = 0
-new_by m l None = 0
+-- whether it brings a new name
+unfoldable pub new_by : Mem → List ℕ → Entry → Bool
+new_by m l (Write f d c s) = false
+new_by m l (SetSize s) = false
+new_by m l (Add i n) = eqb (held m l n) 0
+new_by m l (Remove n) = false
+new_by m l None = false
 
 -- whether an entry at place p adds a name that stands
 unfoldable pub stands_by : Mem → List ℕ → ℕ → Entry → Bool
@@ -53,25 +52,24 @@ abbrev pub places_of : Mem → List ℕ → List ℕ → List ℕ
 places_of m l ws = map (λ (w : ℕ). w / 8) (filter (stands_at m l) ws)
 
 -- r and k are what noting an entry at place p answered and left of the slots l
-pub record EntryNoted (m : Mem) (L : ℕ) (l : List ℕ) (p : ℕ) (e : Entry) (r : ℕ) (k : List ℕ) : Type 0 where
+pub record EntryNoted (m : Mem) (L : ℕ) (l : List ℕ) (p : ℕ) (e : Entry) (r : Bool) (k : List ℕ) : Type 0 where
   pub answer : r ≡ new_by m l e
-  pub one : r ≤ 1
   pub list : k ≡ indexed_by m l p e
   pub long : length k ≡ length l
   pub slots : Slots L k
 
 -- r and k are what noting the entries at ws answered and left of the slots l, which are to hold at most b names
-pub record Indexes (m : Mem) (L N b : ℕ) (ws l : List ℕ) (r : Indexed) (k : List ℕ) : Type 0 where
-  pub good : r ≡ Whole → all (name_entry_ok N) (map (entry_at m) ws) ≡ true
-  pub list : r ≡ Whole → k ≡ index_of m l ws
-  pub few : r ≡ Whole → taken k ≤ b
-  pub slots : r ≡ Whole → Slots L k
-  pub bad : r ≡ Bad → all (name_entry_ok N) (map (entry_at m) ws) ≡ false
-  pub full : r ≡ Full → b < taken (index_of m l ws)
+pub record Indexes (m : Mem) (L N b : ℕ) (ws l : List ℕ) (r : Result ⊤ Misfit) (k : List ℕ) : Type 0 where
+  pub good : IsOk r → all (name_entry_ok N) (map (entry_at m) ws) ≡ true
+  pub list : IsOk r → k ≡ index_of m l ws
+  pub few : IsOk r → taken k ≤ b
+  pub slots : IsOk r → Slots L k
+  pub bad : r ≡ Err Bad → all (name_entry_ok N) (map (entry_at m) ws) ≡ false
+  pub full : r ≡ Err Full → b < taken (index_of m l ws)
 
 -- r and u are what listing the places ps answered and left of a table
-pub record Listed (ps : List ℕ) (r : Named) (u : List ℕ) : Type 0 where
-  pub good : r.good ≡ leb (length ps) most_names
-  pub count : r.good ≡ true → r.count ≡ length ps
+pub record Listed (ps : List ℕ) (r : Option ℕ) (u : List ℕ) : Type 0 where
+  pub good : is_some r ≡ leb (length ps) most_names
+  pub count : (n : ℕ) → r ≡ Some n → n ≡ length ps
   pub long : length u ≡ 224
-  pub places : r.good ≡ true → take (length ps) u ≡ ps
+  pub places : IsSome r → take (length ps) u ≡ ps

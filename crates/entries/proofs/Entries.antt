@@ -1,6 +1,7 @@
 -- Entries laid into a table: an entry is put word by word, and behind the entries that were there it is one more.
-use Rattle.model.proofs.Prelude.{ℕ, zero, suc, ◌+◌, ◌*◌, ◌≤◌, ◌<◌, ◌≡◌, refl, sym, ◌∙◌, List, [], ◌∷◌, ◌++◌, append_assoc, append-nil, arith, zero-add, length, set, length-set, ext_get_or, get_or-set_same, get_or-set_other, take, drop, get_or-take, get_or-drop}
-use Rattle.model.proofs.Tests.{by_eq}
+use Rattle.model.proofs.Prelude.{ℕ, zero, suc, ◌+◌, ◌*◌, ◌-◌, ◌≤◌, ◌<◌, ◌≡◌, refl, sym, ◌∙◌, List, [], ◌∷◌, ◌++◌, append_assoc, append-nil, cond, arith, zero-add, length, ext_get_or, take, drop, get_or-take, get_or-drop}
+use Rattle.model.proofs.Tests.{within, inside, outside}
+use Rattle.files.proofs.Runs.{over_at, length_over}
 use Rattle.model.proofs.Lists.{length_values, values_at, values_same}
 use Rattle.entries.specs.Table.{element, part, entries_of, Holds, Put}
 
@@ -40,37 +41,34 @@ entries_drop ws m k (suc n) =
     let f : m + (k + 8) ≡ m + k + 8 = omega arith in
     rw (e, entries_drop ws m (k + 8) n, f)
 
--- The loop of `put_entry`: the table l is m by now, with the first i words of e laid from element `at` on.
+-- `put_entry`: e is copied over the eight words of the table l from element `at` on.
 
-pub record Laying (l m e : List ℕ) (at i : ℕ) : Type 0 where
-  pub long : length m ≡ length l
-  pub kept : (j : ℕ) → j < at → element m j ≡ element l j
-  pub laid : (j : ℕ) → j < i → element m (at + j) ≡ element e j
+module _ (l e : List ℕ) (at n : ℕ) (h : length e ≡ 8) (is : at ≡ 8 * n) (room : 8 * n + 8 ≤ length l) where
+  abbrev m : List ℕ
+  m = take at l ++ (e ++ drop 8 (drop at l))
 
-pub laying_none : (l e : List ℕ) (at : ℕ) → Laying l l e at 0
-laying_none l e at = record { long = refl; kept = λ j g. refl; laid = λ j g. absurd (omega arith) }
+  there : (j : ℕ) → element m j ≡ cond (within at (at + 8) j) (element e (j - at)) (element l j)
+  there j = over_at l e (drop 8 (drop at l)) at 8 h (omega arith) refl j
 
-pub laying_next : (l m e : List ℕ) (n i : ℕ) → Laying l m e (8 * n) i → 8 * n + 8 ≤ length l → i < 8
-    → Laying l (set m (8 * n + i) (element e i)) e (8 * n) (i + 1)
-laying_next l m e n i q h g =
-    let k = q.long in
-    record {
-      long = rw length-set k;
-      kept = λ j b. get_or-set_other m (8 * n + i) j (element e i) 0 (omega arith) ∙ q.kept j b;
-      laid = λ j b. by_eq j i (λ f. rw f (get_or-set_same m (8 * n + i) (element e i) 0 (omega arith)))
-          (λ f. get_or-set_other m (8 * n + i) (8 * n + j) (element e i) 0 (omega arith) ∙ q.laid j (omega arith));
-    }
+  kept : (j : ℕ) → j < 8 * n → element m j ≡ element l j
+  kept j g = there j ∙ rw (outside at (at + 8) j (λ a b. omega arith))
 
-module _ (l m e : List ℕ) (n i : ℕ) (q : Laying l m e (8 * n) i) (h : length e ≡ 8) (g : 8 ≤ i) where
+  put : (o : ℕ) → o < 8 → element m (8 * n + o) ≡ element e o
+  put o g = let s : 8 * n + o - at ≡ o = omega arith in there (8 * n + o) ∙ rw (inside at (at + 8) (8 * n + o) (omega arith) (omega arith), s)
+
   entries_more : (j k : ℕ) → k + 8 * j ≡ 8 * n → entries_of m k (j + 1) ≡ entries_of l k j ++ (e ∷ [])
   unfolding entries_of
-  entries_more zero k f = rw (part_is m e k h (λ o b. let s : k + o ≡ 8 * n + o = omega arith in rw s (q.laid o (omega arith))))
+  entries_more zero k f = rw (part_is m e k h (λ o b. let s : k + o ≡ 8 * n + o = omega arith in rw s (put o b)))
   entries_more (suc j) k f =
       let s : suc j + 1 ≡ suc (j + 1) = omega arith in
-      rw (s, values_same (element m) (element l) k 8 (λ o a b. q.kept o (omega arith)), entries_more j (k + 8) (omega arith))
+      rw (s, values_same (element m) (element l) k 8 (λ o a b. kept o (omega arith)), entries_more j (k + 8) (omega arith))
 
-  pub entry_put : Put l m n e
-  entry_put = record { entries = entries_more n 0 (omega arith); long = q.long }
+  pub entry_put : (f : List ℕ) (k : ℕ) → f ≡ e → k ≡ 8 → Put l (take at l ++ (f ++ drop k (drop at l))) n e
+  entry_put f k p q =
+      rw (p, q) (record {
+        entries = entries_more n 0 (omega arith);
+        long = length_over l e (drop 8 (drop at l)) at 8 h (omega arith) refl;
+      })
 
 -- A loop that puts entries: the table l is m by now, and its first n entries, then `rest`, are the entries es.
 

@@ -1,5 +1,7 @@
 -- Names as words: where a name field is as it should be, its four words are the name's, since the bytes after the name are 0.
-use Rattle.model.proofs.Prelude.{ℕ, ◌+◌, ◌*◌, ◌≤◌, ◌<◌, ◌≡◌, sym, ◌∙◌, ap, true, List, [], ◌∷◌, arith, add-one, length, get_or, take, drop, get_or-eq_default, get_or-drop, slice, slice-cons, length-slice}
+use Rattle.model.proofs.Prelude.{ℕ, ◌+◌, ◌*◌, ◌≤◌, ◌<◌, ◌≡◌, sym, ◌∙◌, ap, true, List, [], ◌∷◌, arith, add-one, length, get_or, take, drop, get_or-eq_default, get_or-drop, get_or-take, length-take-le, replicate, get_or-replicate, min, ◌++◌, ◌-◌, slice, slice-cons, length-slice}
+use Rattle.std.proofs.lemmas.List.{get_or_append_left, get_or-append_right}
+use Rattle.model.proofs.Tests.{by_lt}
 use Rattle.model.specs.Lists.{values_from}
 use Rattle.model.specs.Words.{Mem, word, byte_at}
 use Rattle.model.specs.Entry.{padded, name_field, name_words, add_words}
@@ -14,9 +16,28 @@ use Rattle.lookup.proofs.Fields.{field_is, length_is}
 use Rattle.entries.specs.Table.{Holds, Put}
 use Rattle.entries.proofs.Entries.{Filling, filling_next, filling_end}
 
--- `name_byte`
-pub past_end : (n : List ℕ) (i : ℕ) → length n ≤ i → 0 ≡ get_or n i 0
-past_end n i h = sym (get_or-eq_default n 0 {n = i} h)
+-- `name_words`: p are the bytes of the name n that were copied into a field of 32 zeros, k of them.
+module _ (n p : List ℕ) (k : ℕ) (e : k ≡ min (length n) 32) (g : p ≡ take k n) where
+  abbrev field : List ℕ
+  field = p ++ drop k (replicate 32 0)
+
+  field_at_lem : (i : ℕ) → i < 32 → get_or field i 0 ≡ get_or n i 0
+  field_at_lem i b =
+      let long : length p ≡ k = ap length g ∙ length-take-le k n (omega arith) in
+      by_lt i k
+      (λ c. get_or_append_left p (drop k (replicate 32 0)) 0 i (rw long c) ∙ rw g (get_or-take k n i 0 c))
+      (λ c. get_or-append_right p (drop k (replicate 32 0)) k i 0 long c ∙ get_or-drop k (replicate 32 0) (i - k) 0
+      ∙ get_or-replicate {A = ℕ} 32 (k + (i - k)) 0 0 (omega arith) ∙ sym (get_or-eq_default n 0 {n = i} (omega arith)))
+
+  word_is : (j : ℕ) → j < 4 → word field j ≡ word n j
+  unfolding word
+  word_is j l = le_from_same 8 (λ i. get_or field i 0) (λ i. get_or n i 0) (8 * j) (λ i a b. field_at_lem i (omega arith))
+
+  pub name_is : (kind inode x0 x1 x2 x3 : ℕ) → x0 ≡ word field 0 → x1 ≡ word field 1 → x2 ≡ word field 2 → x3 ≡ word field 3
+      → kind ∷ inode ∷ length n ∷ x0 ∷ x1 ∷ x2 ∷ x3 ∷ 0 ∷ [] ≡ name_words kind inode n
+  unfolding name_words
+  name_is kind inode x0 x1 x2 x3 h0 h1 h2 h3 =
+      rw (h0 ∙ word_is 0 (omega arith), h1 ∙ word_is 1 (omega arith), h2 ∙ word_is 2 (omega arith), h3 ∙ word_is 3 (omega arith))
 
 -- `copied_add`: the entry at word w, whose name field is as it should be.
 

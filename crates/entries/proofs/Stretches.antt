@@ -3,45 +3,17 @@ use Rattle.model.proofs.Prelude.{ℕ, suc, ◌+◌, ◌-◌, ◌≤◌, ◌<◌,
 use Rattle.model.specs.Entry.{write_words, size_words}
 use Rattle.model.specs.Stretches.{stretches}
 use Rattle.model.specs.Calls.{stretch_entries, clean_file}
-use Rattle.model.proofs.Tests.{by_eq}
 use Rattle.model.proofs.State.Stretches.{first_stretch}
 use Rattle.files.specs.State.{file_from}
 use Rattle.entries.specs.Table.{entries_of, Holds, Put, data_page, Runs}
 use Rattle.entries.proofs.Entries.{length_entries, put_one}
 
--- The loop of `run_length`: c elements of the table from element i on are consecutive pages; `first` is element i, and p the next one.
+-- The loop of `run_length`: c elements of the table from element i on are consecutive pages.
 
 pub record Running (t : List ℕ) (i c : ℕ) : Type 0 where
   pub some : 1 ≤ c
   pub to : i + c ≤ length t
   pub on : (j : ℕ) → j < c → get_or t (i + j) 0 ≡ get_or t i 0 + j
-
-pub running_one : (t : List ℕ) (i : ℕ) → i < length t → Running t i 1
-running_one t i h =
-    record { some = omega arith; to = omega arith; on = λ j g. let z : j ≡ 0 = omega arith in rw (z, add-zero i, add-zero (get_or t i 0)) }
-
-module _ (t : List ℕ) (i c : ℕ) (q : Running t i c) where
-  stopped : (i + c < length t → get_or t (i + c) 0 ≡ get_or t i 0 + c → ⊥) → Runs t i c
-  stopped h = record { some = q.some; to = q.to; on = q.on; longest = h }
-
-  pub run_end : length t ≤ i + c → Runs t i c
-  run_end h = stopped (λ g e. omega arith)
-
-  module _ (first p : ℕ) (a : first ≡ get_or t i 0) (b : p ≡ get_or t (i + c) 0) where
-    pub run_below : p < first → Runs t i c
-    run_below h = stopped (λ g e. omega arith)
-
-    module _ (l : first ≤ p) where
-      pub run_apart : (p - first ≡ c → ⊥) → Runs t i c
-      run_apart h = stopped (λ g e. h (omega arith))
-
-      pub running_next : i + c < length t → p - first ≡ c → Running t i (c + 1)
-      running_next g h =
-          record {
-            some = omega arith;
-            to = omega arith;
-            on = λ j k. by_eq j c (λ e. rw e (omega arith)) (λ e. q.on j (omega arith));
-          }
 
 -- The loop of `put_stretches`: the entries that are left, those of the stretches from element i on; p is element i. The table has the pages of
 -- file pages from k on.

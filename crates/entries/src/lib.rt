@@ -1,8 +1,8 @@
 // Log entries as their eight words, "unused words are written 0"; and several of them laid into a lent table, entry n from element 8 n on.
 #![tactic(auto)]
 
-ghost use Rattle.std.specs.Prelude.{◌≡◌, true, ◌+◌, ◌*◌, ◌-◌, ◌≤◌, ◌<◌, ◌^◌, length, get_or, take};
-ghost use Rattle.model.specs.Words.{le_from, word};
+ghost use Rattle.std.specs.Prelude.{◌≡◌, true, ◌+◌, ◌*◌, ◌≤◌, ◌<◌, ◌^◌, length, take};
+ghost use Rattle.model.specs.Words.{word};
 ghost use Rattle.model.specs.Entry.{write_words, size_words, name_words, add_words, remove_words};
 ghost use Rattle.model.specs.Stretches.{stretches};
 ghost use Rattle.model.specs.Calls.{stretch_entries, clean_file, clean_names};
@@ -11,21 +11,12 @@ ghost use Rattle.directory.specs.Places.{standing, Filled};
 ghost use Rattle.files.specs.State.{file_from};
 ghost use Rattle.entries.specs.Table.{Holds, Put, data_page, Runs};
 
-// The kind of a write.
-const WRITE: u64 = 1;
-
-// The kind of a set size.
-const SET_SIZE: u64 = 2;
-
-// The kind of an add.
-const ADD: u64 = 3;
-
-// The kind of a remove.
-const REMOVE: u64 = 4;
+use inode_log::{ADD, REMOVE, SET_SIZE, WRITE};
 
 // Answers the words of a write: count pages from file page `file` on are mapped to the data pages from `page` on, and the file has this
 // size.
 // Example: write_words(3, 70, 2, 2560) is 1, 3, 70, 2, 2560, 0, 0, 0.
+#[tactic(auto, unfolding(model::specs::Entry::write_words))]
 pub fn write_words(file: u64, page: u64, count: u64, size: u64) -> [u64; 8]
     ensures { result ≡ write_words file page count size }
 {
@@ -34,65 +25,31 @@ pub fn write_words(file: u64, page: u64, count: u64, size: u64) -> [u64; 8]
 
 // Answers the words of a set size.
 // Example: size_words(700) is 2, 700 and six zeros.
+#[tactic(auto, unfolding(model::specs::Entry::size_words))]
 pub fn size_words(size: u64) -> [u64; 8]
     ensures { result ≡ size_words size }
 {
     [SET_SIZE, size, 0, 0, 0, 0, 0, 0]
 }
 
-// Reads byte i of a name and answers it; 0 past its end.
-// Example: of "ab" name_byte(name, 1) is 98 and name_byte(name, 2) is 0.
-fn name_byte(name: &[u8], i: usize) -> u64
-    ensures { (result ≡ get_or name.now i 0) × (result < 256) }
-{
-    if i < name.len() {
-        return words::wide(name[i]);
-    }
-    0
-}
-
-// Reads the 8 bytes of a name from byte b on, the lowest first, and answers the number that they make.
-// Example: of "ab" name_le(name, 0) is 25185, name_le(name, 1) is 98 and name_le(name, 8) is 0.
-fn name_le(name: &[u8], b: usize) -> u64
-    requires { b < 32 }
-    ensures { result ≡ le_from (λ i. get_or name.now i 0) b 8 }
-{
-    let b1 = b + 1;
-    let b2 = b1 + 1;
-    let b3 = b2 + 1;
-    let b4 = b3 + 1;
-    let b5 = b4 + 1;
-    let b6 = b5 + 1;
-    let b7 = b6 + 1;
-    let n5 = name_byte(name, b5) + 256 * (name_byte(name, b6) + 256 * name_byte(name, b7));
-    let n3 = name_byte(name, b3) + 256 * (name_byte(name, b4) + 256 * n5);
-    let n1 = name_byte(name, b1) + 256 * (name_byte(name, b2) + 256 * n3);
-    name_byte(name, b) + 256 * n1
-}
-
-// Reads word j of a name, one of the four that an entry has, and answers it.
-// Example: of "ab" name_word(name, 0) is 25185 and name_word(name, 1) is 0.
-fn name_word(name: &[u8], j: usize) -> u64
-    requires { j < 4 }
-    ensures { result ≡ word name.now j }
-{
-    name_le(name, 8 * j)
-}
-
-// Answers the words of an entry of this kind with an inode and a name.
+// Answers the words of an entry of this kind with an inode and a name; of a name of more than 32 bytes the words have the first 32.
 // Example: name_words(3, 5, "ab") is 3, 5, 2, 25185, 0, 0, 0, 0.
 fn name_words(kind: u64, inode: u64, name: &[u8]) -> [u64; 8]
     ensures { result ≡ name_words kind inode name.now }
 {
-    let a = name_word(name, 0);
-    let b = name_word(name, 1);
-    let c = name_word(name, 2);
-    let d = name_word(name, 3);
+    let mut field = [0u8; layout::NAME_BYTES];
+    let len = name.len().min(layout::NAME_BYTES);
+    field[..len].copy_from_slice(&name[..len]);
+    let a = words::word_at(&field, 0);
+    let b = words::word_at(&field, 1);
+    let c = words::word_at(&field, 2);
+    let d = words::word_at(&field, 3);
     [kind, inode, name.len() as u64, a, b, c, d, 0]
 }
 
 // Answers the words of an add of a name that leads to inode.
 // Example: add_words(5, "ab") is 3, 5, 2, 25185, 0, 0, 0, 0.
+#[tactic(auto, unfolding(model::specs::Entry::add_words))]
 pub fn add_words(inode: u64, name: &[u8]) -> [u64; 8]
     ensures { result ≡ add_words inode name.now }
 {
@@ -101,6 +58,7 @@ pub fn add_words(inode: u64, name: &[u8]) -> [u64; 8]
 
 // Answers the words of a remove of a name.
 // Example: remove_words("ab") is 4, 0, 2, 25185, 0, 0, 0, 0.
+#[tactic(auto, unfolding(model::specs::Entry::remove_words))]
 pub fn remove_words(name: &[u8]) -> [u64; 8]
     ensures { result ≡ remove_words name.now }
 {
@@ -114,11 +72,7 @@ pub fn put_entry(words: &mut [u64], n: usize, e: &[u64; 8])
     ensures { Put words.old words.new n e.now }
 {
     let at = layout::ENTRY_WORDS * n;
-    let mut i: usize = 0;
-    while i < layout::ENTRY_WORDS {
-        words[at + i] = e[i];
-        i = i + 1;
-    }
+    words[at..at + layout::ENTRY_WORDS].copy_from_slice(e);
 }
 
 // Reads word j of the name, one of four, of the entry at a place of the volume v, and answers it.
@@ -154,13 +108,11 @@ pub fn clean_names(v: &[u8], places: &[u16; 224], count: usize, words: &mut [u64
     ensures { Holds words.old words.new result
         (clean_names (standing (word v.now) (take count places.now))) × (result ≡ count) }
 {
-    let mut i: usize = 0;
-    while i < count {
+    for i in 0..count {
         let p = directory::place(places, i);
         put_entry(words, i, &copied_add(v, p));
-        i = i + 1;
     }
-    i
+    count
 }
 
 // Answers how many elements of a table of pages, from element i on, are consecutive pages.
@@ -170,20 +122,14 @@ fn run_length(table: &[u64], i: usize) -> usize
     requires { (i < length table.now) × (length table.now ≤ 128) }
     ensures { Runs table.now i result }
 {
-    let n = table.len();
     let first = table[i];
-    let mut c: usize = 1;
-    while i + c < n {
-        let p = table[i + c];
-        if p < first {
+    let rest = table.len() - i;
+    for c in 1..rest {
+        if table[i + c].checked_sub(first) != Some(c as u64) {
             return c;
         }
-        if p - first != c as u64 {
-            return c;
-        }
-        c = c + 1;
     }
-    c
+    rest
 }
 
 // Lays writes into the table `words`, "one kind 1 entry for each longest stretch of consecutive file pages on consecutive data pages,
@@ -198,8 +144,9 @@ pub fn put_stretches(table: &[u64], file: u64, size: u64, words: &mut [u64]) -> 
         × (result ≤ length table.now) }
 {
     let len = table.len();
-    let mut i: usize = 0;
-    let mut n: usize = 0;
+    let mut i = 0;
+    let mut n = 0;
+    // Kept: a `while`, since a turn passes a whole stretch.
     while i < len {
         let p = table[i];
         if p == 0 {

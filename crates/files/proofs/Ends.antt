@@ -1,6 +1,6 @@
--- The end of a file: file pages are asked one after the other from the first that starts behind the size; of numbers a loop that goes down
--- from n asks of the last of n, and then of those below it; and a word is 0 exactly if its eight bytes are, so that bytes are asked by words.
-use Rattle.model.proofs.Prelude.{ℕ, zero, suc, ◌+◌, ◌*◌, ◌-◌, ◌/◌, ◌%◌, ◌≤◌, ◌<◌, ◌≡◌, refl, sym, ◌∙◌, Bool, true, false, not, ◌&&◌, cond, or-true, List, arith, add-zero, zero-div, sub-one, get_or, eqb, eq-eqb, ne_eqb, eqb-true, le-ltb, lt-ltb}
+-- The end of a file: file pages are asked one after the other from the first that starts behind the size; and a word is 0 exactly if its
+-- eight bytes are, so that bytes are asked by words.
+use Rattle.model.proofs.Prelude.{ℕ, zero, suc, ◌+◌, ◌*◌, ◌-◌, ◌/◌, ◌%◌, ◌≤◌, ◌<◌, ◌≡◌, refl, sym, ◌∙◌, Bool, true, false, not, ◌&&◌, cond, or-true, List, arith, add-zero, zero-div, get_or, length, take, drop, get_or-take, get_or-drop, length-take-le, length-drop, eqb, eq-eqb, ne_eqb, eqb-true, le-ltb, lt-ltb}
 use Rattle.model.specs.Words.{Mem, word, byte_at}
 use Rattle.model.specs.Lists.{all_below}
 use Rattle.model.specs.State.{file_byte}
@@ -8,30 +8,15 @@ use Rattle.model.specs.Accept.{end_ok}
 use Rattle.model.proofs.Tests.{by_bool, by_eq, same_test}
 use Rattle.model.proofs.Lists.{all_below_at, all_below_by, all_below_same}
 use Rattle.model.proofs.Words.{le_from_same, byte_word}
+use Rattle.std.proofs.lemmas.List.{length-take}
+use Rattle.std.specs.Bool.{MatchBool}
+use Rattle.std.specs.List.{AllWithin, HoldsAt}
 use Rattle.words.proofs.Cond.{asked_true, asked_false}
 use Rattle.files.specs.State.{file_from, starts_ok, zeros_at}
 
-below_next : (f : ℕ → Bool) (z : Bool) (n : ℕ) → all_below n f ≡ z → 0 < n → f (n - 1) ≡ true → all_below (n - 1) f ≡ z
-unfolding all_below
-below_next f z zero a l h = absurd (omega arith)
-below_next f z (suc n) a l h = rw sub-one (rw (all_below, (rw sub-one at h)) at a)
-
-below_not : (f : ℕ → Bool) (z : Bool) (n : ℕ) → all_below n f ≡ z → 0 < n → f (n - 1) ≡ false → false ≡ z
-unfolding all_below
-below_not f z zero a l h = absurd (omega arith)
-below_not f z (suc n) a l h = rw (all_below, (rw sub-one at h)) at a
-
-below_end : (f : ℕ → Bool) (z : Bool) (n : ℕ) → all_below n f ≡ z → n ≤ 0 → true ≡ z
-unfolding all_below
-below_end f z zero a l = a
-below_end f z (suc n) a l = absurd (omega arith)
-
--- what `unmapped_too` answers
-pub unmapped_too : (b : Bool) (d : ℕ) → d ≡ 0 → b ≡ b && eqb d 0
-unmapped_too b d z = by_bool b (λ h. rw (h, eq-eqb d 0 z)) (λ h. rw h)
-
-pub mapped_here : (b : Bool) (d : ℕ) → (d ≡ 0 → ⊥) → false ≡ b && eqb d 0
-mapped_here b d z = by_bool b (λ h. rw (h, ne_eqb d 0 z)) (λ h. rw h)
+-- an element of the slice from b on
+part_at : (l : List ℕ) (b k i : ℕ) → i < length (take k (drop b l)) → get_or (take k (drop b l)) i 0 ≡ get_or l (b + i) 0
+part_at l b k i h = get_or-take k (drop b l) i 0 (omega (arith, length-take k (drop b l))) ∙ get_or-drop b l i 0
 
 -- The elements from w on are read, where w is the count of file pages that start below the size s.
 module _ (t : List ℕ) (s w : ℕ) (q : w ≡ (s + 511) / 512) where
@@ -39,31 +24,40 @@ module _ (t : List ℕ) (s w : ℕ) (q : w ≡ (s + 511) / 512) where
   unfolding starts_ok
   start_first = sym (all_below_by w _ (λ i h. rw (lt-ltb (512 * i) s (omega arith), or-true)))
 
-  -- b is whether the first i are good, and r what `unmapped_too` answered
-  pub start_next : (i d : ℕ) (b r : Bool) → w ≤ i → d ≡ get_or t i 0 → b ≡ starts_ok t s i → r ≡ b && eqb d 0 → r ≡ starts_ok t s (i + 1)
+  -- b is whether the first i of the slice from element w on are good too
+  pub start_next : (n i : ℕ) (b : Bool) → i < length (take n (drop w t)) → b ≡ starts_ok t s ((s + 511) / 512 + i)
+      → b && eqb (get_or (take n (drop w t)) i 0) 0 ≡ starts_ok t s ((s + 511) / 512 + (i + 1))
   unfolding starts_ok all_below
-  start_next i d b r l e a h =
-      let p : i + 1 ≡ suc i = omega arith in
-      by_eq (get_or t i 0) 0
-      (λ z. rw (p, eq-eqb (get_or t i 0) 0 z) (h ∙ sym (unmapped_too b d (e ∙ z)) ∙ a))
-      (λ z. rw (p, ne_eqb (get_or t i 0) 0 z, le-ltb (512 * i) s (omega arith)) (h ∙ sym (mapped_here b d (λ y. z (sym e ∙ y)))))
+  start_next n i b l h =
+      let j = (s + 511) / 512 + i in
+      let p : (s + 511) / 512 + (i + 1) ≡ suc j = omega arith in
+      let f : w + i ≡ j = omega arith in
+      by_eq (get_or t j 0) 0
+      (λ z. rw (p, part_at t w n i l, f, eq-eqb (get_or t j 0) 0 z) (by_bool b (λ y. rw y (sym y ∙ h)) (λ y. rw y (sym y ∙ h))))
+      (λ z. rw (p, part_at t w n i l, f, ne_eqb (get_or t j 0) 0 z, le-ltb (512 * j) s (omega arith)) (by_bool b (λ y. rw y) (λ y. rw y)))
 
-pub start_end : (t : List ℕ) (s i : ℕ) (r : Bool) → r ≡ starts_ok t s i → i ≤ 128 → 128 ≤ i → r ≡ starts_ok t s 128
-start_end t s i r a h k = let p : i ≡ 128 = omega arith in rw p at a
+pub start_end : (t : List ℕ) (s i : ℕ) (r : Bool) → r ≡ starts_ok t s i → i ≡ 128 → r ≡ starts_ok t s 128
+start_end t s i r a h = rw h at a
 
-module _ (f : ℕ → ℕ) (b : ℕ) (z : Bool) (n : ℕ) (a : zeros_at f b n ≡ z) where
-  module _ (x : ℕ) (l : 0 < n) (e : x ≡ f (b + (n - 1))) where
-    pub zero_next : x ≡ 0 → zeros_at f b (n - 1) ≡ z
-    unfolding zeros_at
-    zero_next h = below_next _ z n a l (eq-eqb _ 0 (sym e ∙ h))
+pub zero_none : (f : ℕ → ℕ) (b : ℕ) → zeros_at f b 0 ≡ true
+unfolding zeros_at all_below
+zero_none f b = refl
 
-    pub zero_bad : (x ≡ 0 → ⊥) → false ≡ z
-    unfolding zeros_at
-    zero_bad h = below_not _ z n a l (ne_eqb _ 0 (λ y. h (e ∙ y)))
+-- Whether n numbers from b on are 0, asked one after the other: x is the number behind the first i.
+module _ (f : ℕ → ℕ) (b i x : ℕ) (e : x ≡ f (b + i)) where
+  pub zero_more : x ≡ 0 → zeros_at f b i ≡ true → zeros_at f b (i + 1) ≡ true
+  unfolding zeros_at all_below
+  zero_more z h = let p : i + 1 ≡ suc i = omega arith in rw (p, ← e, eq-eqb x 0 z) h
 
-  pub zero_end : n ≤ 0 → true ≡ z
+  pub zero_not : (n : ℕ) → i < n → (x ≡ 0 → ⊥) → false ≡ zeros_at f b n
   unfolding zeros_at
-  zero_end l = below_end _ z n a l
+  zero_not n l z =
+      by_bool (all_below n (λ j. eqb (f (b + j)) 0))
+      (λ y. absurd (z (e ∙ eqb-true (f (b + i)) 0 (all_below_at n i (λ j. eqb (f (b + j)) 0) y l))))
+      (λ y. sym y)
+
+pub zero_end : (f : ℕ → ℕ) (b i n : ℕ) → zeros_at f b i ≡ true → i ≤ n → n ≤ i → true ≡ zeros_at f b n
+zero_end f b i n h l k = let p : i ≡ n = omega arith in sym (rw p at h)
 
 -- The bytes of a volume v by its words.
 
@@ -77,6 +71,23 @@ zeros_split f b k (suc n) =
     by_bool (eqb (f (b + (k + n))) 0) (λ e. rw (s, p, e) (zeros_split f b k n)) (λ e. rw (s, p, e))
 
 module _ (v : List ℕ) (small : (i : ℕ) → get_or v i 0 < 256) where
+  long : (b n k : ℕ) → b + n ≤ length v → k ≡ n → length (take k (drop b v)) ≡ k
+  long b n k l e = length-take-le k (drop b v) (rw length-drop (omega arith))
+
+  -- the bytes asked as the elements of a list, which is the slice from b on
+  pub zeros_in : (b n k : ℕ) (r : Bool) → b + n ≤ length v → k ≡ n
+      → MatchBool r (AllWithin (λ x. x ≡ 0) (take k (drop b v)) 0 (length (take k (drop b v))))
+      ((i : ℕ) × (i < length (take k (drop b v))) × HoldsAt (λ x. x ≡ 0 → ⊥) (take k (drop b v)) i)
+      → r ≡ zeros_at (byte_at (word v)) b n
+  unfolding zeros_at
+  zeros_in b n k true l e h =
+      sym (all_below_by n _ (λ j g.
+      let r : j < length (take k (drop b v)) = rw (long b n k l e) (omega arith) in
+      eq-eqb (byte_at (word v) (b + j)) 0 (byte_word v (b + j) small ∙ sym (part_at v b k j r) ∙ h j 0 (omega arith) r)))
+  zeros_in b n k false l e (i, g, d) =
+      zero_not (byte_at (word v)) b i (byte_at (word v) (b + i)) refl n (rw (long b n k l e, e) at g)
+      (λ z. d 0 (part_at v b k i g ∙ sym (byte_word v (b + i) small) ∙ z))
+
   -- a word is 0 exactly if its eight bytes are
   zero_word : (w : ℕ) → zeros_at (byte_at (word v)) (8 * w) 8 ≡ eqb (word v w) 0
   unfolding zeros_at byte_at word
@@ -116,11 +127,11 @@ module _ (v : List ℕ) (small : (i : ℕ) → get_or v i 0 < 256) where
         let s : c % 8 + 8 * (c / 8) ≡ c = omega arith in
         rw s at (bytes_then_words b (c % 8) ((b + c % 8) / 8) (c / 8) (omega arith))
 
-    pub words_not : not f ≡ true → false ≡ zeros_at (byte_at (word v)) b c
-    words_not n = rw (parts, asked_false _ f g n)
+    pub words_not : f ≡ false → f ≡ zeros_at (byte_at (word v)) b c
+    words_not n = rw (parts, ← g, n)
 
-    pub words_then : (r : Bool) → not f ≡ false → r ≡ zeros_at (byte_at (word v)) b (c % 8) → r ≡ zeros_at (byte_at (word v)) b c
-    words_then r n k = rw (parts, asked_true _ f g n) k
+    pub words_then : (r : Bool) → f ≡ true → r ≡ zeros_at (byte_at (word v)) b (c % 8) → r ≡ zeros_at (byte_at (word v)) b c
+    words_then r n k = rw (parts, ← g, n) k
 
 module _ (m : Mem) (t : List ℕ) (s : ℕ) (f : Bool) (e : f ≡ starts_ok t s 128) where
   pub end_starts : not f ≡ true → false ≡ end_ok m (file_from s t)

@@ -1,52 +1,14 @@
 -- One entry: whether a file's log may hold it, and what it does. Each kind is a case.
-use Rattle.model.proofs.Prelude.{ℕ, ◌+◌, ◌*◌, ◌-◌, ◌/◌, ◌≤◌, ◌<◌, ◌≡◌, refl, sym, ◌∙◌, ap, fun_ext, Bool, true, false, cond, not, List, arith, leb, length, get_or, get_or-eq_default, le-leb, lt-leb, leb-true, ltb-true, not-false}
-use mir.Val.{Fits}
-use mir.Syntax.{w64}
+use Rattle.model.proofs.Prelude.{ℕ, ◌+◌, ◌*◌, ◌-◌, ◌/◌, ◌≤◌, ◌≡◌, refl, sym, ◌∙◌, ap, fun_ext, Bool, true, false, cond, not, List, arith, leb, length, get_or, get_or-eq_default, le-leb, lt-leb, leb-true, ltb-true, not-false}
 use Rattle.model.specs.Entry.{Entry as Full, write_entry, size_entry, add_entry, remove_entry, no_entry, file_entry_ok}
 use Rattle.model.specs.State.{File, file_step}
 use Rattle.model.proofs.Tests.{within, inside, outside, by_lt, ands}
 use Rattle.model.proofs.Log.Decode.{write_ok}
 use Rattle.inode_log.specs.Entries.{meant}
-use Rattle.inode_log.specs.declared.Name.{Name}
 use Rattle.inode_log.specs.declared.Entry.{Entry}
-use Rattle.inode_log.specs.declared.Entry.TheVariants.{Write, SetSize, Add, Remove, None}
+use Rattle.inode_log.specs.declared.Entry.TheVariants.{Write, SetSize}
 use Rattle.files.specs.State.{file_from, filled, Applied}
 use Rattle.files.proofs.Runs.{length_filled, filled_at}
-
--- A sum that could be too big for its type is tested part by part.
-
-module _ (a b c : ℕ) where
-  pub part_over : c < a → leb (a + b) c ≡ false
-  part_over h = lt-leb (a + b) c (omega arith)
-
-  pub sum_over_lem : a ≤ c → c - a < b → leb (a + b) c ≡ false
-  sum_over_lem h g = lt-leb (a + b) c (omega arith)
-
-  pub sum_under : a ≤ c → b ≤ c - a → leb (a + b) c ≡ true
-  sum_under h g = le-leb (a + b) c (omega arith)
-
--- Whether a file's log may hold an entry.
-
-module _ (P N : ℕ) (e : Entry) where
-  pub ok_write : (f d c s : ℕ) (r : Bool) → e ≡ Write f d c s → r ≡ file_entry_ok P N (write_entry f d c s) → r ≡ file_entry_ok P N (meant e)
-  unfolding meant
-  ok_write f d c s r h g = rw h g
-
-  pub ok_size : (s : ℕ) → e ≡ SetSize s → leb s 65536 ≡ file_entry_ok P N (meant e)
-  unfolding meant file_entry_ok
-  ok_size s h = rw h
-
-  pub ok_add : (i : ℕ) (n : Name) → e ≡ Add i n → false ≡ file_entry_ok P N (meant e)
-  unfolding meant file_entry_ok
-  ok_add i n h = rw h
-
-  pub ok_remove : (n : Name) → e ≡ Remove n → false ≡ file_entry_ok P N (meant e)
-  unfolding meant file_entry_ok
-  ok_remove n h = rw h
-
-  pub ok_none : e ≡ None → false ≡ file_entry_ok P N (meant e)
-  unfolding meant file_entry_ok
-  ok_none h = rw h
 
 -- an entry that passed on a volume would pass on one of the most pages
 larger : (P N : ℕ) (e : Full) → P ≤ 4096 → file_entry_ok P N e ≡ true → file_entry_ok 4096 0 e ≡ true
@@ -81,15 +43,9 @@ module _ (e : Entry) (ok : file_entry_ok 4096 0 (meant e) ≡ true) where
   unfolding file_entry_ok
   run_low f d c z h = let k = write_was f d c z h in leb-true (d + c) 4096 (search ands)
 
-  size_low : (z : ℕ) → e ≡ SetSize z → z ≤ 65536
+  pub size_low : (z : ℕ) → e ≡ SetSize z → z ≤ 65536
   unfolding meant file_entry_ok
   size_low z h = leb-true z 65536 (rw h at ok)
-
-  pub size_fits : (z : ℕ) → e ≡ SetSize z → Fits w64 (z + 511)
-  size_fits z h = let l = size_low z h in record { fits = omega arith }
-
-  pub size_room : (z : ℕ) → e ≡ SetSize z → (z + 511) / 512 ≤ 128
-  size_room z h = let l = size_low z h in omega arith
 
   module _ (s : ℕ) (t u : List ℕ) (long : length t ≡ 128) where
     -- a table that is filled as the entry says stands for the file after it
@@ -108,11 +64,10 @@ module _ (e : Entry) (ok : file_entry_ok 4096 0 (meant e) ≡ true) where
           long = ap length g ∙ length_filled (λ i. d + (i - f)) c t f ∙ long;
         }
 
-    pub did_size : (z : ℕ) → e ≡ SetSize z → u ≡ filled (λ i. 0) t ((z + 511) / 512) (128 - (z + 511) / 512) → Applied s t e z u
+    pub did_size : (z i : ℕ) → e ≡ SetSize z → i ≡ (z + 511) / 512 → u ≡ filled (λ j. 0) t i (128 - i) → Applied s t e z u
     unfolding meant file_step
-    did_size z h g =
-        let b = size_room z h in
-        let i = (z + 511) / 512 in
+    did_size z i h d g =
+        let b = size_low z h in
         let n = 128 - i in
         let p : (j : ℕ) → cond (within i (i + n) j) 0 (get_or t j 0) ≡ cond (leb z (512 * j)) 0 (get_or t j 0) =
         λ j. by_lt j i (λ l. rw (outside i (i + n) j (λ x y. omega arith), lt-leb z (512 * j) (omega arith)))
@@ -123,15 +78,3 @@ module _ (e : Entry) (ok : file_entry_ok 4096 0 (meant e) ≡ true) where
           file = rw h (filled_file z i n (λ i. 0) _ g (omega arith) p);
           long = ap length g ∙ length_filled (λ i. 0) n t i ∙ long;
         }
-
-    pub did_add : (i : ℕ) (n : Name) → e ≡ Add i n → Applied s t e s t
-    unfolding meant file_step
-    did_add i n h = record { file = rw h; long = long }
-
-    pub did_remove : (n : Name) → e ≡ Remove n → Applied s t e s t
-    unfolding meant file_step
-    did_remove n h = record { file = rw h; long = long }
-
-    pub did_none : e ≡ None → Applied s t e s t
-    unfolding meant file_step
-    did_none h = record { file = rw h; long = long }

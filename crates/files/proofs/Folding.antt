@@ -1,10 +1,11 @@
 -- One turn of the fold over a file's log: the entry that a step hands back is the first of those that are left.
 use Rattle.model.proofs.Prelude.{ℕ, ◌*◌, ◌-◌, ◌≤◌, ◌<◌, ◌≡◌, sym, ◌∙◌, ap, Bool, true, false, not, List, []}
+use Rattle.std.specs.Prelude.{Some, None}
+use Rattle.std.proofs.lemmas.Option.{none-some, same_Some}
 use Rattle.model.specs.Words.{Mem}
 use Rattle.model.specs.Lists.{all, foldl}
 use Rattle.model.specs.Entry.{entry_at, file_entry_ok}
 use Rattle.model.specs.State.{File, file_step}
-use Rattle.model.proofs.Tests.{no}
 use Rattle.words.proofs.Cond.{asked_true, asked_false}
 use Rattle.inode_log.specs.declared.Step.{Step}
 use Rattle.inode_log.specs.Entries.{meant}
@@ -26,12 +27,12 @@ module _ (n : ℕ) (m : Mem) (from end : ℕ) (l : 0 < n) (d : from ≡ end → 
         let b = rw (is_entry m from r e) at (asked_true (file_entry_ok P N (meant r.entry)) f h k) in
         rw e (rw (next_entries n m from end l d, all, b) at a)
 
-    pub all_bad : (g : File) (x : ℕ) (t : List ℕ) → not f ≡ true → Folds z g (record { good = false; size = x }) t
+    pub all_bad : (g : File) (t : List ℕ) → not f ≡ true → Folds z g None t
     unfolding all
-    all_bad g x t k =
+    all_bad g t k =
         let b = rw (is_entry m from r e) at (asked_false (file_entry_ok P N (meant r.entry)) f h k) in
         let c : z ≡ false = sym (rw (next_entries n m from end l d, all, b) at a) in
-        record { good = sym c; file = λ y. no y }
+        record { good = sym c; file = λ s y. absurd (none-some s y) }
 
   pub fold_turn : (s x : ℕ) (t u : List ℕ) (z : File) → foldl file_step (file_from s t) (entries_from n m from end) ≡ z → Applied s t r.entry x u
       → foldl file_step (file_from x u) (entries_from (n - 1) m r.next.place end) ≡ z
@@ -42,15 +43,15 @@ module _ (n : ℕ) (m : Mem) (from end : ℕ) (l : 0 < n) (d : from ≡ end → 
 -- the end of the loop
 module _ (P N n : ℕ) (m : Mem) (from end s : ℕ) (t : List ℕ) (z : Bool) (g : File) (a : all (file_entry_ok P N) (entries_from n m from end) ≡ z)
     (f : foldl file_step (file_from s t) (entries_from n m from end) ≡ g) where
-  folded : entries_from n m from end ≡ [] → Folds z g (record { good = true; size = s }) t
+  folded : entries_from n m from end ≡ [] → Folds z g (Some s) t
   unfolding all foldl
   folded e =
       let b : true ≡ z = rw e at a in
       let c : file_from s t ≡ g = rw e at f in
-      record { good = b; file = λ _. c }
+      record { good = b; file = λ x y. rw (← same_Some s x y) c }
 
-  pub fold_done : from ≡ end → Folds z g (record { good = true; size = s }) t
+  pub fold_done : from ≡ end → Folds z g (Some s) t
   fold_done e = folded (no_entries n m from end e)
 
-  pub fold_spent : n ≤ 0 → Folds z g (record { good = true; size = s }) t
+  pub fold_spent : n ≤ 0 → Folds z g (Some s) t
   fold_spent e = folded (spent_entries n m from end e)

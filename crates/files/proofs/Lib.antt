@@ -1,5 +1,5 @@
 -- Runs, Entries, Folding, States, Sizes and Ends have the cases of this crate's functions.
-mod Runs
+pub mod Runs
 mod Entries
 mod Folding
 mod States

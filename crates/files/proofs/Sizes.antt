@@ -13,35 +13,10 @@ use Rattle.inode_log.specs.Entries.{meant}
 use Rattle.inode_log.specs.Steps.{landing, step_at, entries_from, within}
 use Rattle.inode_log.specs.Found.{log_entries, LogOf}
 use Rattle.inode_log.specs.declared.Log.{Log}
-use Rattle.inode_log.specs.declared.Name.{Name}
 use Rattle.inode_log.specs.declared.Step.{Step}
-use Rattle.inode_log.specs.declared.Entry.{Entry}
-use Rattle.inode_log.specs.declared.Entry.TheVariants.{Write, SetSize, Add, Remove, None}
 use Rattle.inode_log.proofs.Meant.{meant_in}
 use Rattle.inode_log.proofs.Turns.{next_entries, no_entries, step_there, within_turn}
 use Rattle.files.specs.State.{size_in}
-
--- `size_in`
-module _ (e : Entry) where
-  pub size_write : (f d c s : ℕ) → e ≡ Write f d c s → s ≡ size_in (meant e)
-  unfolding meant size_in
-  size_write f d c s h = rw h
-
-  pub size_set : (s : ℕ) → e ≡ SetSize s → s ≡ size_in (meant e)
-  unfolding meant size_in
-  size_set s h = rw h
-
-  pub size_add : (i : ℕ) (n : Name) → e ≡ Add i n → 0 ≡ size_in (meant e)
-  unfolding meant size_in
-  size_add i n h = rw h
-
-  pub size_remove : (n : Name) → e ≡ Remove n → 0 ≡ size_in (meant e)
-  unfolding meant size_in
-  size_remove n h = rw h
-
-  pub size_none : e ≡ None → 0 ≡ size_in (meant e)
-  unfolding meant size_in
-  size_none h = rw h
 
 module _ (P N : ℕ) where
   step_size : (f : File) (e : Full) → file_entry_ok P N e ≡ true → (file_step f e).size ≡ size_in e

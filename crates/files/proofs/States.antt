@@ -1,6 +1,7 @@
 -- A file's state by its inode: the entries that the fold met are those of the model, and a table of zeros is the empty file.
-use Rattle.model.proofs.Prelude.{ℕ, ◌≡◌, ◌∙◌, ap, fun_ext, Bool, true, false, List, length, replicate, get_or-replicate, length-replicate, get_or-eq_default}
+use Rattle.model.proofs.Prelude.{ℕ, ◌≡◌, ◌∙◌, ap, fun_ext, Bool, true, false, List, replicate, get_or-replicate, length-replicate, get_or-eq_default}
 use Rattle.model.specs.Lists.{is_some}
+use Rattle.std.specs.Prelude.{Option, Some, IsSome}
 use Rattle.model.specs.Words.{Mem}
 use Rattle.model.specs.Layout.{is_directory}
 use Rattle.model.specs.Journal.{view}
@@ -11,7 +12,6 @@ use Rattle.model.proofs.Tests.{by_lt, ands}
 use Rattle.inode_log.specs.Found.{log_entries, LogOf}
 use Rattle.inode_log.specs.declared.Log.{Log}
 use Rattle.files.specs.State.{file_from, Folds, FoldsOver}
-use Rattle.files.specs.declared.Folded.{Folded}
 
 empty_table : (n : ℕ) → file_from 0 (replicate n 0) ≡ empty_file
 unfolding empty_file
@@ -19,10 +19,7 @@ empty_table n =
     let f : (ℕ → ℕ) → File = λ y. record { size = 0; page = y } in
     ap f (fun_ext (λ i. by_lt i n (get_or-replicate n i 0 0) (λ l. get_or-eq_default (replicate n 0) 0 {n = i} (rw length-replicate l))))
 
-pub zeros_long : (w : List ℕ) → w ≡ replicate 128 0 → length w ≡ 128
-zeros_long w e = ap length e ∙ length-replicate {A = ℕ} 128 0
-
-pub fold_is : (m : Mem) (L P N k : ℕ) (g : Log) (x : Folded) (w u : List ℕ) → LogOf m L P N k g → is_some (log_pages (view m) P N k) ≡ true
+pub fold_is : (m : Mem) (L P N k : ℕ) (g : Log) (x : Option ℕ) (w u : List ℕ) → LogOf m L P N k g → is_some (log_pages (view m) P N k) ≡ true
     → is_directory (view m) k ≡ false → w ≡ replicate 128 0 → FoldsOver g.pages N (log_entries m g) w x u
     → Folds (log_ok (view m) P N k) (file_of (view m) P N k) x u
 unfolding log_ok file_of
@@ -35,5 +32,8 @@ pub log_ends : (u : Mem) (P N k : ℕ) → log_ok u P N k ≡ true → is_some (
 unfolding log_ok
 log_ends u P N k ok = search ands
 
-pub good_size : (ok : Bool) (f : File) (x : Folded) (t : List ℕ) → Folds ok f x t → ok ≡ true → file_from x.size t ≡ f
-good_size ok f x t h y = h.file (h.good ∙ y)
+pub good_answer : (ok : Bool) (f : File) (x : Option ℕ) (t : List ℕ) → Folds ok f x t → ok ≡ true → IsSome x
+good_answer ok f x t h y = h.good ∙ y
+
+pub good_size : (ok : Bool) (f : File) (x : Option ℕ) (s : ℕ) (t : List ℕ) → Folds ok f x t → x ≡ Some s → file_from s t ≡ f
+good_size ok f x s t h y = h.file s y

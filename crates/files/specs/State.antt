@@ -1,11 +1,11 @@
 -- A file's state as the code has it: a size, and a table of the data pages of its 128 file pages.
-use Rattle.std.specs.Prelude.{ℕ, zero, suc, ◌+◌, ◌*◌, ◌≡◌, Bool, true, ◌||◌, List, ltb, eqb, set, get_or, length}
+use Rattle.std.specs.Prelude.{ℕ, zero, suc, ◌+◌, ◌*◌, ◌≡◌, Bool, ◌||◌, List, ltb, eqb, set, get_or, length, Option, Some}
+use Rattle.std.specs.Option.{is_some}
 use Rattle.model.specs.Lists.{all_below, all, foldl}
 use Rattle.model.specs.Entry.{Entry as Full, write_entry, size_entry, add_entry, remove_entry, no_entry, file_entry_ok}
 use Rattle.model.specs.State.{File, file_step}
 use Rattle.inode_log.specs.Entries.{meant}
 use Rattle.inode_log.specs.declared.Entry.{Entry}
-use Rattle.files.specs.declared.Folded.{Folded}
 
 -- the file that a size and a table stand for
 abbrev pub file_from : ℕ → List ℕ → File
@@ -30,12 +30,12 @@ pub record Applied (s : ℕ) (t : List ℕ) (e : Entry) (r : ℕ) (u : List ℕ)
   pub long : length u ≡ 128
 
 -- the answer r and the table t of a log that is right if ok, and whose file is then f
-pub record Folds (ok : Bool) (f : File) (r : Folded) (t : List ℕ) : Type 0 where
-  pub good : r.good ≡ ok
-  pub file : r.good ≡ true → file_from r.size t ≡ f
+pub record Folds (ok : Bool) (f : File) (r : Option ℕ) (t : List ℕ) : Type 0 where
+  pub good : is_some r ≡ ok
+  pub file : (s : ℕ) → r ≡ Some s → file_from s t ≡ f
 
 -- the same of the entries es, for a table that was t
-abbrev pub FoldsOver : ℕ → ℕ → List Full → List ℕ → Folded → List ℕ → Type 0
+abbrev pub FoldsOver : ℕ → ℕ → List Full → List ℕ → Option ℕ → List ℕ → Type 0
 FoldsOver P N es t r u = Folds (all (file_entry_ok P N) es) (foldl file_step (file_from 0 t) es) r u
 
 -- whether each of the first n file pages is unmapped or starts below the size

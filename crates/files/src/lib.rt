@@ -17,25 +17,10 @@ ghost use Rattle.inode_log.specs.Found.{log_entries, Inside};
 ghost use Rattle.files.specs.State.{file_from, filled, size_in, Applied, Folds, FoldsOver, starts_ok, zeros_at};
 
 use inode_log::{Cursor, Entry, Log};
-
-// What a log comes to: whether a file may have it and, if so, the file's size; its pages are then in the lent table.
-#[derive(Clone, Copy)]
-pub struct Folded {
-    pub good: bool,
-    pub size: u64,
-}
-
-// Stores x in element i of the table. Answers nothing.
-// Example: put(table, 3, 70) maps file page 3 to data page 70.
-fn put(table: &mut [u64; 128], i: usize, x: u64)
-    requires { i < 128 }
-    ensures { table.new ≡ set table.old i x }
-{
-    table[i] = x;
-}
+use layout::Sizes;
 
 // Answers the data page that the table has for a file page, or 0 where that is unmapped.
-// Example: after put(table, 3, 70) get(table, 3) is 70.
+// Example: where file page 3 is mapped to data page 70, get(table, 3) is 70.
 pub fn get(table: &[u64; 128], file: usize) -> u64
     requires { file < 128 }
     ensures { result ≡ get_or table.now file 0 }
@@ -49,14 +34,8 @@ fn map_run(table: &mut [u64; 128], file: usize, page: u64, count: usize)
     requires { (file + count ≤ 128) × (page + count ≤ 4096) }
     ensures { table.new ≡ filled (λ i. page + (i - file)) table.old file count }
 {
-    let mut i = file;
-    let mut d = page;
-    let mut left = count;
-    while 0 < left {
-        put(table, i, d);
-        i = i + 1;
-        d = d + 1;
-        left = left - 1;
+    for i in 0..count {
+        table[file + i] = page + i as u64;
     }
 }
 
@@ -66,49 +45,31 @@ fn unmap_from(table: &mut [u64; 128], file: usize)
     requires { file ≤ 128 }
     ensures { table.new ≡ filled (λ i. 0) table.old file (128 - file) }
 {
-    let mut i = file;
-    let mut left = 128 - file;
-    while 0 < left {
-        put(table, i, 0);
-        i = i + 1;
-        left = left - 1;
-    }
+    table[file..].fill(0);
 }
 
 // Answers whether a file's log may hold this write: "Write counts are 1 to 128, file pages end at or below 128, data
 // pages lie in T+1 to P−1", and the size is at most 65,536.
-// Example: with 64 pages and 8 inodes run_ok(126, 62, 2, 65536, 64, 8) is true, and run_ok(126, 62, 3, 65536, 64, 8) is false.
-fn run_ok(file: u64, page: u64, count: u64, size: u64, pages: u64, inodes: u64) -> bool
-    ensures { result ≡ file_entry_ok pages inodes (write_entry file page count size) }
+// Example: with 64 pages and 8 inodes run_ok(126, 62, 2, 65536, sizes) is true, and run_ok(126, 62, 3, 65536, sizes) is false.
+#[tactic(auto, unfolding(model::specs::Entry::file_entry_ok))]
+fn run_ok(file: u64, page: u64, count: u64, size: u64, sizes: Sizes) -> bool
+    ensures { result ≡ file_entry_ok sizes.pages sizes.inodes (write_entry file page count size) }
 {
-    if count < 1 {
-        return false;
-    }
-    if 128 < count {
-        return false;
-    }
-    if 128 < file {
-        return false;
-    }
-    if 128 < file + count {
-        return false;
-    }
-    if page <= inodes / 8 {
-        return false;
-    }
-    if pages < page {
-        return false;
-    }
-    if pages - page < count {
-        return false;
-    }
-    size <= 65536
+    let pages = sizes.pages as u64;
+    1 <= count
+        && count <= 128
+        && file <= 128 - count
+        && page > (sizes.inodes / 8) as u64
+        && page <= pages
+        && count <= pages - page
+        && size <= 65536
 }
 
 // Answers whether a file's log may hold an entry.
-// Example: entry_ok(Entry::SetSize(65536), 64, 8) is true, and entry_ok(Entry::None, 64, 8) is false.
-fn entry_ok(e: Entry, pages: usize, inodes: usize) -> bool
-    ensures { result ≡ file_entry_ok pages inodes (meant e) }
+// Example: with 64 pages and 8 inodes entry_ok(Entry::SetSize(65536), sizes) is true, and entry_ok(Entry::None, sizes) is false.
+#[tactic(auto, unfolding(inode_log::specs::Entries::meant, model::specs::Entry::file_entry_ok))]
+fn entry_ok(e: Entry, sizes: Sizes) -> bool
+    ensures { result ≡ file_entry_ok sizes.pages sizes.inodes (meant e) }
 {
     match e {
         Entry::Write {
@@ -116,11 +77,9 @@ fn entry_ok(e: Entry, pages: usize, inodes: usize) -> bool
             page,
             count,
             size,
-        } => run_ok(file, page, count, size, pages as u64, inodes as u64),
+        } => run_ok(file, page, count, size, sizes),
         Entry::SetSize(size) => size <= 65536,
-        Entry::Add { inode, name } => false,
-        Entry::Remove(name) => false,
-        Entry::None => false,
+        Entry::Add { .. } | Entry::Remove(_) | Entry::None => false,
     }
 }
 
@@ -142,104 +101,91 @@ fn apply(e: Entry, size: u64, table: &mut [u64; 128]) -> u64
             end
         }
         Entry::SetSize(end) => {
-            let from = (end + 511) / 512;
-            unmap_from(table, from as usize);
+            unmap_from(table, pages_below(end as usize));
             end
         }
-        Entry::Add { inode, name } => size,
-        Entry::Remove(name) => size,
-        Entry::None => size,
+        Entry::Add { .. } | Entry::Remove(_) | Entry::None => size,
     }
 }
 
-// Does to the table what the entries of a log say, and answers the size after them; not good where one of them is none that a file's
-// log may hold.
-// Example: where a set size of 700 is the only entry of the log, fold_file(v, log, 8, table) is good and has size 700.
-fn fold_file(v: &[u8], log: Log, inodes: usize, table: &mut [u64; 128]) -> Folded
+// Does to the table what the entries of a log say, and answers the size after them; none where one of them is none that a file's log may
+// hold.
+// Example: where a set size of 700 is the only entry of the log, fold_file(v, log, 8, table) is Some(700).
+fn fold_file(v: &[u8], log: Log, inodes: usize, table: &mut [u64; 128]) -> Option<u64>
     requires { Inside (word v.now) (length v.now) log × (length table.old ≡ 128) }
     ensures { FoldsOver log.pages inodes (log_entries (word v.now) log) table.old result table.new }
 {
-    let end = log.end;
-    let pages = log.pages;
+    let sizes = Sizes {
+        pages: log.pages as usize,
+        inodes,
+    };
     let mut c = Cursor { place: log.start };
-    let mut size: u64 = 0;
-    let mut left = 7 * pages;
-    while 0 < left {
-        let from = c.place;
-        if from == end {
-            return Folded { good: true, size };
+    let mut size = 0;
+    for _turn in 0..7 * log.pages {
+        if c.place == log.end {
+            return Some(size);
         }
         let s = inode_log::log_step(v, c);
-        let e = s.entry;
-        if !entry_ok(e, pages as usize, inodes) {
-            return Folded { good: false, size };
+        if !entry_ok(s.entry, sizes) {
+            return None;
         }
-        size = apply(e, size, table);
+        size = apply(s.entry, size, table);
         c = s.next;
-        left = left - 1;
     }
-    Folded { good: true, size }
+    Some(size)
 }
 
-// Reads the log of file k, whose walk is known to end, into a table of zeros, and answers the file's size; not good where an entry is none
+// Reads the log of file k, whose walk is known to end, into a table of zeros, and answers the file's size; none where an entry is none
 // that a file's log may hold.
-// Example: where the tail of inode 3 is 0, file_state(v, 3, 64, 8, table) is good, has size 0 and leaves the table.
-pub fn file_state(v: &[u8], k: usize, pages: usize, inodes: usize, table: &mut [u64; 128]) -> Folded
-    requires { Ready (word v.now) (length v.now) pages inodes × (is_directory (view (word v.now)) k ≡ false) × (k < inodes)
-        × (table.old ≡ replicate 128 0) × (is_some (log_pages (view (word v.now)) pages inodes k) ≡ true) }
-    ensures { Folds (log_ok (view (word v.now)) pages inodes k)
-        (file_of (view (word v.now)) pages inodes k) result table.new }
+// Example: where the tail of inode 3 is 0, file_state(v, 3, sizes, table) is Some(0) and leaves the table.
+pub fn file_state(v: &[u8], k: usize, sizes: Sizes, table: &mut [u64; 128]) -> Option<u64>
+    requires { Ready (word v.now) (length v.now) sizes.pages sizes.inodes × (is_directory (view (word v.now)) k ≡ false)
+        × (k < sizes.inodes) × (table.old ≡ replicate 128 0)
+        × (is_some (log_pages (view (word v.now)) sizes.pages sizes.inodes k) ≡ true) }
+    ensures { Folds (log_ok (view (word v.now)) sizes.pages sizes.inodes k)
+        (file_of (view (word v.now)) sizes.pages sizes.inodes k) result table.new }
 {
-    let log = inode_log::log_of(v, k, pages, inodes);
-    fold_file(v, log, inodes, table)
+    let log = inode_log::log_of(v, k, sizes);
+    fold_file(v, log, sizes.inodes, table)
 }
 
 // Reads the log of file k, which is known to be as an accepted volume has it, into a table of zeros, and answers the file's size.
-// Example: where file 3 has 514 bytes on pages 3 and 4, judged_file(v, 3, 64, 8, table) is 514, and table starts with 3, 4 and 0.
-pub fn judged_file(v: &[u8], k: usize, pages: usize, inodes: usize, table: &mut [u64; 128]) -> u64
-    requires { Ready (word v.now) (length v.now) pages inodes × (is_directory (view (word v.now)) k ≡ false) × (k < inodes)
-        × (table.old ≡ replicate 128 0) × (log_ok (view (word v.now)) pages inodes k ≡ true) }
-    ensures { file_from result table.new ≡ file_of (view (word v.now)) pages inodes k }
+// Example: where file 3 has 514 bytes on pages 3 and 4, judged_file(v, 3, sizes, table) is 514, and table starts with 3, 4 and 0.
+pub fn judged_file(v: &[u8], k: usize, sizes: Sizes, table: &mut [u64; 128]) -> u64
+    requires { Ready (word v.now) (length v.now) sizes.pages sizes.inodes × (is_directory (view (word v.now)) k ≡ false)
+        × (k < sizes.inodes) × (table.old ≡ replicate 128 0) × (log_ok (view (word v.now)) sizes.pages sizes.inodes k ≡ true) }
+    ensures { file_from result table.new ≡ file_of (view (word v.now)) sizes.pages sizes.inodes k }
 {
-    let state = file_state(v, k, pages, inodes, table);
-    state.size
+    file_state(v, k, sizes, table).unwrap()
 }
 
 // Answers the size that an entry leaves a file with.
 // Example: size_in(Entry::SetSize(700)) is 700.
+#[tactic(auto, unfolding(inode_log::specs::Entries::meant, crate::specs::State::size_in))]
 fn size_in(e: Entry) -> u64
     ensures { result ≡ size_in (meant e) }
 {
     match e {
-        Entry::Write {
-            file,
-            page,
-            count,
-            size,
-        } => size,
+        Entry::Write { size, .. } => size,
         Entry::SetSize(size) => size,
-        Entry::Add { inode, name } => 0,
-        Entry::Remove(name) => 0,
-        Entry::None => 0,
+        Entry::Add { .. } | Entry::Remove(_) | Entry::None => 0,
     }
 }
 
 // Answers the size of file k, whose log is known to be as an accepted volume has it, from the last entry alone: every entry sets the
 // size. An empty log is that of a file of no bytes.
-// Example: where the last entry of file 3 sets the size 700, last_size(v, 3, 64, 8) is 700.
-pub fn last_size(v: &[u8], k: usize, pages: usize, inodes: usize) -> u64
-    requires { Ready (word v.now) (length v.now) pages inodes × (is_directory (view (word v.now)) k ≡ false) × (k < inodes)
-        × (log_ok (view (word v.now)) pages inodes k ≡ true) }
-    ensures { result ≡ (file_of (view (word v.now)) pages inodes k).size }
+// Example: where the last entry of file 3 sets the size 700, last_size(v, 3, sizes) is 700.
+pub fn last_size(v: &[u8], k: usize, sizes: Sizes) -> u64
+    requires { Ready (word v.now) (length v.now) sizes.pages sizes.inodes × (is_directory (view (word v.now)) k ≡ false)
+        × (k < sizes.inodes) × (log_ok (view (word v.now)) sizes.pages sizes.inodes k ≡ true) }
+    ensures { result ≡ (file_of (view (word v.now)) sizes.pages sizes.inodes k).size }
 {
-    let log = inode_log::log_of(v, k, pages, inodes);
-    let end = log.end;
-    if end == 0 {
+    let log = inode_log::log_of(v, k, sizes);
+    if log.end == 0 {
         return 0;
     }
-    let s = inode_log::log_step(v, Cursor { place: end - 1 });
-    let e = s.entry;
-    size_in(e)
+    let s = inode_log::log_step(v, Cursor { place: log.end - 1 });
+    size_in(s.entry)
 }
 
 // Answers how many file pages start below the size.
@@ -251,17 +197,6 @@ pub fn pages_below(size: usize) -> usize
     (size + 511) / 512
 }
 
-// Answers whether what was asked before is so, and a file page with data page d is unmapped.
-// Example: unmapped_too(true, 0) is true, and unmapped_too(true, 9) and unmapped_too(false, 0) are false.
-fn unmapped_too(before: bool, d: u64) -> bool
-    ensures { result ≡ before && eqb d 0 }
-{
-    if d == 0 {
-        return before;
-    }
-    false
-}
-
 // Answers whether every mapped page starts below the size: the table's elements from pages_below(size) on must be 0, and no
 // others are read. The loop reads all of them, whatever it finds, so that the compiled code compares several at once.
 // Example: where elements 0 and 1 alone are not 0, starts_ok(table, 513) is true and starts_ok(table, 512) is false.
@@ -269,12 +204,9 @@ fn starts_ok(table: &[u64; 128], size: usize) -> bool
     requires { size ≤ 65536 }
     ensures { result ≡ starts_ok table.now size 128 }
 {
-    let low = pages_below(size);
-    let mut i = low;
     let mut ok = true;
-    while i < 128 {
-        ok = unmapped_too(ok, get(table, i));
-        i = i + 1;
+    for d in &table[pages_below(size)..] {
+        ok &= *d == 0;
     }
     ok
 }
@@ -285,11 +217,8 @@ fn zero_words(v: &[u8], w: usize, count: usize) -> bool
     requires { 8 * (w + count) ≤ length v.now }
     ensures { result ≡ zeros_at (word v.now) w count }
 {
-    let mut n = count;
-    while 0 < n {
-        n = n - 1;
-        let x = words::word_at(v, w + n);
-        if x != 0 {
+    for i in 0..count {
+        if words::word_at(v, w + i) != 0 {
             return false;
         }
     }
@@ -302,15 +231,7 @@ fn zero_bytes(v: &[u8], b: usize, count: usize) -> bool
     requires { b + count ≤ length v.now }
     ensures { result ≡ zeros_at (byte_at (word v.now)) b count }
 {
-    let mut n = count;
-    while 0 < n {
-        n = n - 1;
-        let x = words::byte_at(v, b + n);
-        if x != 0 {
-            return false;
-        }
-    }
-    true
+    v[b..b + count].iter().all(|x| *x == 0)
 }
 
 // Answers whether count bytes from byte b on are zero, which end where a word ends: the whole words among them are read as words.
@@ -320,10 +241,7 @@ fn zeros_at(v: &[u8], b: usize, count: usize) -> bool
     ensures { result ≡ zeros_at (byte_at (word v.now)) b count }
 {
     let left = count % 8;
-    if !zero_words(v, (b + left) / 8, count / 8) {
-        return false;
-    }
-    zero_bytes(v, b, left)
+    zero_words(v, (b + left) / 8, count / 8) && zero_bytes(v, b, left)
 }
 
 // Answers whether a file ends as an accepted volume has it: "no mapped page starts at or after the size, and a mapped

@@ -1,11 +1,13 @@
 -- A word of a buffer is made of eight of its bytes; so where the buffer has the bytes of the pages, its words are theirs.
-use Rattle.model.proofs.Prelude.{ℕ, ◌+◌, ◌-◌, ◌*◌, ◌/◌, ◌%◌, ◌≤◌, ◌<◌, ◌≡◌, ◌∙◌, ap, List, arith, add_assoc, zero-add, length, get_or, replicate, get_or-replicate, length-replicate, lt-ltb, le-ltb}
-use Rattle.model.specs.Words.{Mem, word, byte_at}
+use Rattle.model.proofs.Prelude.{ℕ, ◌+◌, ◌-◌, ◌*◌, ◌/◌, ◌%◌, ◌≤◌, ◌<◌, ◌≡◌, ◌∙◌, sym, ap, List, ◌++◌, arith, add_assoc, zero-add, length, take, drop, ext_get_or, get_or, replicate, get_or-replicate, length-replicate, lt-ltb, le-ltb}
+use Rattle.model.specs.Words.{Mem, word}
 use Rattle.model.specs.Calls.{pages_covered}
 use Rattle.model.proofs.Tests.{by_lt, by_range, inside, outside}
-use Rattle.model.proofs.Words.{le_from_same, byte_word}
+use Rattle.model.specs.Lists.{values_from}
+use Rattle.model.proofs.Lists.{length_values, values_at}
+use Rattle.model.proofs.Words.{le_from_same}
 use Rattle.contents.specs.Laid.{laid, table_byte}
-use Rattle.contents.proofs.Laying.{laid_same, laid_length, laid_beside, laid_at, laid_front}
+use Rattle.contents.proofs.Laying.{laid_same, laid_length, laid_beside, laid_at, laid_front, laid_part}
 use Rattle.fresh.specs.Fresh.{written_over, zero_from, fresh_word}
 
 -- c pages from the page of byte o on, whose bytes are f and stand in the buffer b
@@ -19,10 +21,17 @@ words_laid f b a o c h = laid_same (word b) (fresh_word f o) (64 * c) a 0 0 0 sa
         rw (zero-add j)
         (le_from_same 8 (λ i. get_or b i 0) (λ i. f (512 * (o / 512) + i)) (8 * j) (λ k p q. h k (omega arith)) ∙ simp add_assoc)
 
--- `lay_over`: the bytes of a slice, as its words have them, are its own.
-pub over_laid : (v l l' : List ℕ) (i : ℕ) → l' ≡ laid l i (byte_at (word v)) 0 (length v) → ((j : ℕ) → get_or v j 0 < 256)
-    → l' ≡ laid l i (λ j. get_or v j 0) 0 (length v)
-over_laid v l l' i e h = e ∙ laid_same (byte_at (word v)) (λ j. get_or v j 0) (length v) l i 0 0 (λ k g. byte_word v (0 + k) h)
+-- `lay_over`: a slice copied into a part of the list l, from index i on
+pub over_laid : (v p l : List ℕ) (i k : ℕ) → p ≡ v → k ≡ length v → i + length v ≤ length l
+    → take i l ++ (p ++ drop k (drop i l)) ≡ laid l i (λ j. get_or v j 0) 0 (length v)
+over_laid v p l i k a e room =
+    rw (a, e, laid_part (λ j. get_or v j 0) (length v) l i 0 room)
+    (ap (λ (r : List ℕ). take i l ++ (r ++ drop (length v) (drop i l))) (own v))
+  where
+    own : (v : List ℕ) → v ≡ values_from (λ j. get_or v j 0) 0 (length v)
+    own v =
+        ext_get_or 0 _ _ (sym (length_values (λ j. get_or v j 0) 0 (length v)))
+        (λ j l. sym (values_at (λ j. get_or v j 0) 0 (length v) j l ∙ rw (zero-add j)))
 
 -- `lay_write`: b is the buffer with the file's bytes, d the same with the bytes written, c the count of pages.
 module _ (m : Mem) (t bs b d : List ℕ) (o c : ℕ) (e : b ≡ laid (replicate 4608 0) 0 (table_byte m t) (512 * (o / 512)) (512 * c))

@@ -2,7 +2,7 @@
 // volume, and the file's data pages stand in a table: entry i is the data page of file page i, and 0 says that it is unmapped.
 #![tactic(auto)]
 
-ghost use Rattle.std.specs.Prelude.{◌≡◌, ◌+◌, ◌*◌, ◌≤◌, ◌<◌, length, get_or, set};
+ghost use Rattle.std.specs.Prelude.{◌≡◌, ◌+◌, ◌*◌, ◌≤◌, ◌<◌, length, get_or};
 ghost use Rattle.model.specs.Words.{word};
 ghost use Rattle.model.specs.Calls.{pages_covered};
 ghost use Rattle.contents.specs.Laid.{laid, Within};
@@ -17,27 +17,14 @@ pub fn pages_covered(offset: usize, end: usize) -> usize
     (end - 1) / layout::PAGE + 1 - offset / layout::PAGE
 }
 
-// Stores x in element j of the array. Answers nothing.
-// Example: put(data, 3, 70) makes element 3 a 70.
-fn put(data: &mut [u64], j: usize, x: u64)
-    requires { j < length «data».old }
-    ensures { «data».new ≡ set «data».old j x }
-{
-    data[j] = x;
-}
-
 // Lays the first count words of the bytes into the array, from its first element on. Answers nothing.
 // Example: of 16 bytes, all 0 but byte 9, which is 1, lay_words(bytes, data, 2) makes element 0 a 0 and element 1 a 256.
 fn lay_words(bytes: &[u8], data: &mut [u64], count: usize)
     requires { (8 * count ≤ length bytes.now) × (count ≤ length «data».old) }
     ensures { «data».new ≡ laid «data».old 0 (word bytes.now) 0 count }
 {
-    let mut j: usize = 0;
-    let mut left = count;
-    while 0 < left {
-        put(data, j, words::word_at(bytes, j));
-        j = j + 1;
-        left = left - 1;
+    for j in 0..count {
+        data[j] = words::word_at(bytes, j);
     }
 }
 
@@ -48,7 +35,7 @@ fn lay_over(bytes: &[u8], buffer: &mut [u8], from: usize)
     ensures { buffer.new ≡ laid buffer.old from (λ i. get_or bytes.now i 0) 0
         (length bytes.now) }
 {
-    contents::lay_bytes(bytes, 0, buffer, from, bytes.len())
+    buffer[from..from + bytes.len()].copy_from_slice(bytes)
 }
 
 // Lays the words of the file pages that a write covers into the array, from its first element on: the bytes written, and

@@ -1,133 +1,148 @@
--- Lists that are filled with the gaps, one gap each turn: the list with the gaps that are left set into it is always what it becomes.
-use Rattle.model.proofs.Prelude.{ℕ, suc, ◌+◌, ◌*◌, ◌/◌, ◌≤◌, ◌<◌, ◌≡◌, refl, sym, ◌∙◌, ap, List, [], ◌∷◌, map, arith, zero-add, add-one, length, drop, get_or, set, length-map, drop-cons, drop_of_length-le, sets, length-sets, sets-eq, eq-eqb, ne_eqb}
-use Rattle.model.specs.Words.{word}
+-- Lists that are filled with the gaps, one gap each turn: the elements of the gaps so far stand at the list's start.
+use Rattle.model.proofs.Prelude.{ℕ, suc, ◌+◌, ◌*◌, ◌/◌, ◌≤◌, ◌<◌, ◌≡◌, refl, sym, ◌∙◌, ap, List, [], ◌∷◌, ◌++◌, map, some, arith, add-zero, zero-add, length, length-map, get_or, set, length-append, map-append, sets, sets-eq, drop}
+use Rattle.std.specs.Prelude.{Result, Err, IsErrAnd}
+use Rattle.std.specs.List.{enumerate_from}
+use Rattle.std.specs.Iterator.{YieldsFirst}
+use Rattle.std.specs.Iterator.Adapters.{enumerate_steps}
+use Rattle.std.specs.declared.iter.Enumerate.{Enumerate}
+use Rattle.std.proofs.lemmas.Iterator.{YieldsList}
+use Rattle.std.proofs.lemmas.Iterator.Consumers.{YieldsList-from_first, YieldsList-from_enumerate}
+use Rattle.std.proofs.lemmas.List.FromFn.{length-enumerate_from, get_or-enumerate_from}
 use Rattle.model.specs.Answer as model
-use Rattle.model.specs.Answer.{refused, done, map_answer, filled_from}
-use Rattle.model.specs.Public.{gaps_in, gaps_answer, gaps_list, flat, gaps_words}
-use Rattle.model.proofs.Tests.{by_eq}
-use Rattle.answer.specs.Meaning.{numbered}
-use Rattle.answer.specs.declared.Answer.{Answer}
-use Rattle.gaps.specs.Gaps.{gap_of, gap_end, gaps_left, Follows, pairs_in, listed, number_in, counted, Seen, Judged}
+use Rattle.model.specs.Answer.{refused, done, map_answer}
+use Rattle.model.specs.Public.{gaps_answer, gaps_list, flat, gaps_words}
+use Rattle.answer.specs.Meaning.{meaning, numbered, number_of}
+use Rattle.answer.specs.declared.Refusal.{Refusal}
+use Rattle.answer.proofs.Checked.{clash, passed_on}
+use Rattle.gaps.specs.Gaps.{gap_of, gaps_left, gaps_ahead, Seen, Judged}
+use Rattle.gaps.proofs.Found.{few_left}
 use Rattle.gaps.specs.declared.Gap.{Gap}
+use Rattle.gaps.specs.declared.Gaps.{Gaps}
 
--- The loop that fills the list list₀ with the n gaps gs, of which `lay` makes the elements of such a list. i gaps are in the list l by now;
--- the others go in from element `at` on. g is the gap found last.
-pub record Filling {A : Type 0} (lay : List (ℕ × ℕ) → List A) (v marks : List ℕ) (gs : List (ℕ × ℕ)) (n : ℕ) (g : Gap) (i at : ℕ)
-    (list₀ l : List A) : Type 0 where
-  pub count : n ≡ length gs
-  pub fits : length (lay gs) ≤ length list₀
-  pub ends : gap_end g ≤ 4096
-  pub left : i < n → Seen v marks (gap_end g) (drop i gs)
-  pub becomes : sets l at (lay (drop i gs)) ≡ sets list₀ 0 (lay gs)
+-- The loop goes over the gaps gs, numbered; ps are the numbered gaps so far.
 
--- the gap before the first one
-abbrev pub no_gap : Gap
-no_gap = record { first = 0; length = 0 }
+-- the gaps of numbered gaps
+abbrev pub without_numbers : List (ℕ × Gap) → List Gap
+without_numbers ps = map (λ p. p.1) ps
 
--- the count of an answer that has the gaps' count
-counted_is : (a : model.Answer (List (ℕ × ℕ))) → number_in (numbered (map_answer length a)) ≡ length (pairs_in a)
-counted_is (refused k) = refl
-counted_is (done gs) = refl
+-- the next one has the number of those before it
+pub next_number : (gs : List Gap) (ps : List (ℕ × Gap)) (i : ℕ) (g : Gap)
+    → (length ps < length (enumerate_from 0 gs)) × ((i, g) ≡ get_or (enumerate_from 0 gs) (length ps) (i, g))
+    → (i ≡ length ps) × (i < length gs)
+next_number gs ps i g t =
+    let l : length ps < length gs = rw length-enumerate_from at t.0 in
+    let e : i ≡ length ps = ap (λ p. p.0) (t.1 ∙ get_or-enumerate_from 0 gs (length ps) (i, g) l) ∙ zero-add (length ps) in
+    (e, rw e l)
 
-judged_count : (v marks : List ℕ) (room : ℕ) (r : Answer) → Judged v room r marks → counted r ≡ length (listed v room)
-unfolding gaps_answer
-judged_count v marks room r j = ap number_in j.answer ∙ counted_is (gaps_in (length v) (word v) room)
+as_they_are : (ps : List (ℕ × Gap)) → without_numbers (map (λ p. (p.0, p.1)) ps) ≡ without_numbers ps
+as_they_are [] = refl
+as_they_are (p ∷ ps) = ap (λ r. p.1 ∷ r) (as_they_are ps)
 
--- Both kinds of lists.
+numbers_off : (n : ℕ) (gs : List Gap) → without_numbers (enumerate_from n gs) ≡ gs
+numbers_off n [] = refl
+numbers_off n (g ∷ gs) = ap (λ r. g ∷ r) (numbers_off (n + 1) gs)
 
-module _ {A : Type 0} {lay : List (ℕ × ℕ) → List A} {v marks : List ℕ} where
-  start : (room n : ℕ) (r : Answer) (list₀ : List A) → Judged v room r marks → n ≡ counted r → length (lay (listed v room)) ≤ length list₀
-      → Filling lay v marks (listed v room) n no_gap 0 0 list₀ list₀
-  start room n r list₀ j e f =
-      record { count = e ∙ judged_count v marks room r j; fits = f; ends = omega arith; left = λ h. j.seen (omega arith); becomes = refl }
+-- at the end there are no others
+pub all_of_them : (gs : List Gap) (ps : List (ℕ × Gap)) → map (λ p. (p.0, p.1)) ps ≡ enumerate_from 0 gs → without_numbers ps ≡ gs
+all_of_them gs ps e = sym (as_they_are ps) ∙ ap without_numbers e ∙ numbers_off 0 gs
 
-  module _ {gs : List (ℕ × ℕ)} {n : ℕ} {g : Gap} {i at : ℕ} {list₀ l : List A} (y : Filling lay v marks gs n g i at list₀ l) where
-    pub filling_length : length l ≡ length list₀
-    filling_length = sym (length-sets l at (lay (drop i gs))) ∙ ap length y.becomes ∙ length-sets list₀ 0 (lay gs)
+-- those are the gaps that the marks show
+pub numbered_gaps : (s : Enumerate Gaps) (gs : List Gap) → gaps_ahead s.iter.marks.now s.iter.sizes s.iter.from ≡ gs → s.count ≡ 0
+    → YieldsList (enumerate_steps (YieldsFirst (λ g. gaps_ahead g.marks.now g.sizes g.from))) (λ p. (p.0, p.1)) s (enumerate_from 0 gs)
+numbered_gaps s gs e z =
+    YieldsList-from_enumerate {s = s} (YieldsList-from_first (λ x. x) (λ g. gaps_ahead g.marks.now g.sizes g.from) gs e) z
 
-    all_in : lay [] ≡ [] → n ≤ i → l ≡ sets list₀ 0 (lay gs)
-    all_in e h = let c = y.count in rw (drop_of_length-le gs {i = i} (omega arith), e) at y.becomes
-
-    -- what `next_gap` requires
-    pub filling_requires : i < n → (16 ≤ length v) × (word v 0 ≤ 4096) × (g.first + g.length ≤ 4096)
-    filling_requires h = ((y.left h).long, (y.left h).pages, y.ends)
-
-    -- r is what it answers, the first of the gaps that are left
-    module _ (h : i < n) (r : Gap) (f : Follows v marks g r) where
-      first_left : (drop i gs ≡ (r.first, r.length) ∷ drop (i + 1) gs) × (gaps_left v marks (gap_end r) ≡ drop (i + 1) gs)
-      first_left =
-          let c = y.count in
-          let a : drop i gs ≡ get_or gs i (0, 0) ∷ drop (i + 1) gs = rw add-one (drop-cons gs i (0, 0) (omega arith)) in
-          let b = sym (y.left h).gaps ∙ f.left in
-          by_eq r.length 0 (λ z. let q = ap length (sym a ∙ rw (eq-eqb _ _ z) at b) in absurd (omega arith))
-          (λ z. let d : drop i gs ≡ (r.first, r.length) ∷ gaps_left v marks (gap_end r) = rw (ne_eqb _ _ z) at b in ((cc), (cc)))
-
-      next : (at' : ℕ) (l' : List A) → sets l at (lay ((r.first, r.length) ∷ drop (i + 1) gs)) ≡ sets l' at' (lay (drop (i + 1) gs))
-          → Filling lay v marks gs n r (i + 1) at' list₀ l'
-      next at' l' e =
-          let s = y.left h in
-          let o = f.inside in
-          record {
-            count = y.count;
-            fits = y.fits;
-            ends = omega arith;
-            left = λ k. record { long = s.long; pages = s.pages; gaps = first_left.1 };
-            becomes = sym e ∙ rw first_left.0 at y.becomes;
-          }
+-- one element more, behind those that were set
+sets_more : {A : Type 0} (xs l : List A) (i : ℕ) (x : A) → sets l i (xs ++ x ∷ []) ≡ set (sets l i xs) (i + length xs) x
+sets_more [] l i x = rw add-zero
+sets_more (y ∷ ys) l i x =
+    sets_more ys (set l i y) (suc i) x ∙ ap (λ (k : ℕ). set (sets (set l i y) (suc i) ys) k x) (omega arith)
 
 -- what the list becomes is the elements of the gaps, and behind them its own
-filled : {A : Type 0} (lay : List (ℕ × ℕ) → List A) (a : model.Answer (List (ℕ × ℕ))) (l : List A) → lay [] ≡ []
-    → length (lay (pairs_in a)) ≤ length l → sets l 0 (lay (pairs_in a)) ≡ filled_from l (map_answer lay a)
-filled lay (refused k) l e h = rw e
-filled lay (done gs) l e h = rw zero-add at (sets-eq (lay gs) l 0 (omega arith))
+filled : {A : Type 0} (l xs : List A) → length xs ≤ length l → sets l 0 xs ≡ xs ++ drop (length xs) l
+filled l xs h = rw zero-add at (sets-eq xs l 0 (omega arith))
+
+-- a refusal lists no gap
+not_listed : (y : model.Answer (List (ℕ × ℕ))) (k : ℕ) → refused k ≡ numbered (map_answer length y) → y ≡ refused k
+not_listed (refused n) k h = cc
+not_listed (done gs) k h = clash k (some (length gs)) h
 
 -- A list of gaps: gap i is element i.
 
-pub filling_start : (v marks : List ℕ) (room n : ℕ) (r : Answer) (list₀ : List Gap) → Judged v room r marks → n ≡ counted r
-    → room ≡ length list₀ → Filling (map gap_of) v marks (listed v room) n no_gap 0 0 list₀ list₀
-filling_start v marks room n r list₀ j e f =
-    let c = judged_count v marks room r j in let k = j.fits in start room n r list₀ j e (rw length-map (omega arith))
+module _ (l₀ : List Gap) where
+  pub gaps_next : (ps : List (ℕ × Gap)) (l : List Gap) (i : ℕ) (g : Gap) → l ≡ sets l₀ 0 (without_numbers ps) → i ≡ length ps
+      → set l i g ≡ sets l₀ 0 (without_numbers (ps ++ (i, g) ∷ []))
+  gaps_next ps l i g e f =
+      let k : i ≡ 0 + length (without_numbers ps) = rw (length-map, f) (sym (zero-add (length ps))) in
+      rw (e, map-append) (ap (λ j. set (sets l₀ 0 (without_numbers ps)) j g) k ∙ sym (sets_more (without_numbers ps) l₀ 0 g))
 
-module _ {v marks : List ℕ} {gs : List (ℕ × ℕ)} {n : ℕ} {g : Gap} {i : ℕ} {list₀ l : List Gap}
-    (y : Filling (map gap_of) v marks gs n g i i list₀ l) (h : i < n) where
-  pub filling_room : i < length l
-  filling_room = let c = y.count in let f = rw length-map at y.fits in omega (arith, filling_length y)
+  module _ (v marks : List ℕ) where
+    pub gaps_room : (n i : ℕ) (l : List Gap) → Seen v (length l₀) n marks → i < length (map gap_of (gaps_left v marks 0))
+        → length l ≡ length l₀ → i < length l
+    gaps_room n i l s h e = let k = rw length-map at h in omega (arith, s.count, s.fits)
 
-  pub filling_next : (r : Gap) → Follows v marks g r → Filling (map gap_of) v marks gs n r (i + 1) (i + 1) list₀ (set l i r)
-  filling_next r f = next y h r f (i + 1) (set l i r) (rw add-one)
+    -- the byte at which gap i stands in the list is a number of 64 bits
+    pub gap_fits : (n i : ℕ) → Seen v (length l₀) n marks → i < length (map gap_of (gaps_left v marks 0))
+        → i * 16 < 18446744073709551616
+    gap_fits n i s h = let k = rw length-map at h in let f = few_left v marks s.pages in omega (arith, k, f)
 
-pub filling_end : {v marks : List ℕ} {room n : ℕ} {g : Gap} {i : ℕ} {list₀ l : List Gap}
-    → Filling (map gap_of) v marks (listed v room) n g i i list₀ l → n ≤ i → room ≡ length list₀ → l ≡ gaps_list gap_of v list₀
-unfolding gaps_list
-filling_end {v} {room} {list₀} y h e =
-    all_in y refl h ∙ filled (map gap_of) (gaps_in (length v) (word v) room) list₀ refl y.fits ∙ rw e
+    pub gaps_end : (n : ℕ) (l : List Gap) (ps : List (ℕ × Gap)) → Seen v (length l₀) n marks → l ≡ sets l₀ 0 (without_numbers ps)
+        → without_numbers ps ≡ map gap_of (gaps_left v marks 0) → l ≡ gaps_list gap_of v l₀
+    unfolding gaps_list
+    gaps_end n l ps s e f =
+        rw s.gaps (e ∙ rw f (filled l₀ (map gap_of (gaps_left v marks 0)) (rw length-map (omega (arith, s.count, s.fits)))))
+
+    pub gaps_told : (e : Refusal) (r : Result ℕ Refusal) → IsErrAnd r (λ d. d ≡ e) → Judged v (length l₀) (Err e) marks
+        → (meaning r ≡ numbered (gaps_answer v (length l₀))) × (l₀ ≡ gaps_list gap_of v l₀)
+    unfolding gaps_list gaps_answer
+    gaps_told e r p j = rw (passed_on e r p) (j.answer, rw (not_listed _ (number_of e) j.answer))
 
 -- A list of words: gap i is elements 2 i and 2 i + 1.
 
-length_flat : (gs : List (ℕ × ℕ)) → length (flat gs) ≡ 2 * length gs
-unfolding flat
-length_flat [] = refl
-length_flat (g ∷ gs) = let e = length_flat gs in omega arith
+-- the words of gaps
+unfoldable pub words_of : List Gap → List ℕ
+words_of [] = []
+words_of (g ∷ gs) = g.first ∷ g.length ∷ words_of gs
 
-pub words_start : (v marks : List ℕ) (room n : ℕ) (r : Answer) (list₀ : List ℕ) → Judged v room r marks → n ≡ counted r
-    → room ≡ length list₀ / 2 → Filling flat v marks (listed v room) n no_gap 0 0 list₀ list₀
-words_start v marks room n r list₀ j e f =
-    let c = judged_count v marks room r j in let k = j.fits in start room n r list₀ j e (rw length_flat (omega arith))
+length_words : (gs : List Gap) → length (words_of gs) ≡ 2 * length gs
+unfolding words_of
+length_words [] = refl
+length_words (g ∷ gs) = let e = length_words gs in omega arith
 
-module _ {v marks : List ℕ} {gs : List (ℕ × ℕ)} {n : ℕ} {g : Gap} {i : ℕ} {list₀ l : List ℕ}
-    (y : Filling flat v marks gs n g i (2 * i) list₀ l) (h : i < n) where
-  pub words_room : 2 * i + 1 < length l
-  words_room = let c = y.count in let f = rw length_flat at y.fits in omega (arith, filling_length y)
+words_append : (gs : List Gap) (g : Gap) → words_of (gs ++ g ∷ []) ≡ (words_of gs ++ g.first ∷ []) ++ g.length ∷ []
+unfolding words_of
+words_append [] g = refl
+words_append (h ∷ gs) g = ap (λ r. h.first ∷ h.length ∷ r) (words_append gs g)
 
+words_flat : (gs : List (ℕ × ℕ)) → words_of (map gap_of gs) ≡ flat gs
+unfolding words_of flat
+words_flat [] = refl
+words_flat (g ∷ gs) = ap (λ r. g.0 ∷ g.1 ∷ r) (words_flat gs)
+
+module _ (l₀ : List ℕ) where
   -- m is what `put_pair` leaves of the list
-  pub words_next : (r : Gap) (m : List ℕ) → Follows v marks g r → m ≡ set (set l (2 * i) r.first) (2 * i + 1) r.length
-      → Filling flat v marks gs n r (i + 1) (2 * (i + 1)) list₀ m
-  unfolding flat
-  words_next r m f e =
-      let a : 2 * (i + 1) ≡ suc (suc (2 * i)) = omega arith in next y h r f (2 * (i + 1)) m (rw (e, a, add-one (2 * i)))
+  pub words_next : (ps : List (ℕ × Gap)) (l m : List ℕ) (i : ℕ) (g : Gap) → l ≡ sets l₀ 0 (words_of (without_numbers ps)) → i ≡ length ps
+      → m ≡ set (set l (2 * i) g.first) (2 * i + 1) g.length → m ≡ sets l₀ 0 (words_of (without_numbers (ps ++ (i, g) ∷ [])))
+  words_next ps l m i g e f h =
+      let gs = without_numbers ps in
+      let k : 2 * i ≡ 0 + length (words_of gs) = rw (length_words, length-map) (omega (arith, f)) in
+      let j : 2 * i + 1 ≡ 0 + length (words_of gs ++ g.first ∷ []) = rw length-append (omega (arith, k)) in
+      h ∙ rw (map-append, words_append, sets_more, sets_more, ← k, ← j, e)
 
-pub words_end : {v marks : List ℕ} {room n : ℕ} {g : Gap} {i : ℕ} {list₀ l : List ℕ}
-    → Filling flat v marks (listed v room) n g i (2 * i) list₀ l → n ≤ i → room ≡ length list₀ / 2 → l ≡ gaps_words v list₀
-unfolding gaps_words flat
-words_end {v} {room} {list₀} y h e =
-    all_in y refl h ∙ filled flat (gaps_in (length v) (word v) room) list₀ refl y.fits ∙ rw e
+  module _ (v marks : List ℕ) where
+    pub words_room : (n i : ℕ) (l : List ℕ) → Seen v (length l₀ / 2) n marks → i < length (map gap_of (gaps_left v marks 0))
+        → length l ≡ length l₀ → 2 * i + 1 < length l
+    words_room n i l s h e = let k = rw length-map at h in omega (arith, s.count, s.fits)
+
+    pub words_end : (n : ℕ) (l : List ℕ) (ps : List (ℕ × Gap)) → Seen v (length l₀ / 2) n marks
+        → l ≡ sets l₀ 0 (words_of (without_numbers ps)) → without_numbers ps ≡ map gap_of (gaps_left v marks 0) → l ≡ gaps_words v l₀
+    unfolding gaps_words
+    words_end n l ps s e f =
+        let w = words_flat (gaps_left v marks 0) in
+        rw s.gaps
+        (e ∙ rw (f, w) (filled l₀ (flat (gaps_left v marks 0)) (rw (← w, length_words, length-map) (omega (arith, s.count, s.fits)))))
+
+    pub words_told : (e : Refusal) (r : Result ℕ Refusal) → IsErrAnd r (λ d. d ≡ e) → Judged v (length l₀ / 2) (Err e) marks
+        → (meaning r ≡ numbered (gaps_answer v (length l₀ / 2))) × (l₀ ≡ gaps_words v l₀)
+    unfolding gaps_words gaps_answer
+    words_told e r p j = rw (passed_on e r p) (j.answer, rw (not_listed _ (number_of e) j.answer))

@@ -1,5 +1,5 @@
 -- What the checks that calls ask first come to, and what the tables hold where none of them refuses.
-use Rattle.std.specs.Prelude.{ℕ, ◌≡◌, true, List, ◌∷◌, ltb, length}
+use Rattle.std.specs.Prelude.{ℕ, ◌≡◌, true, List, ◌∷◌, ltb, length, Result, IfOk}
 use Rattle.model.specs.Words.{Mem, word}
 use Rattle.model.specs.Layout.{root, list_words}
 use Rattle.model.specs.Journal.{view}
@@ -11,8 +11,7 @@ use Rattle.names.specs.Listed.{names_in, Lists}
 use Rattle.inodes.specs.Judged.{Served}
 use Rattle.survey.specs.Surveyed.{TreeOf}
 use Rattle.answer.specs.Meaning.{meaning, numbered}
-use Rattle.answer.specs.declared.Answer.{Answer}
-use Rattle.answer.specs.declared.Answer.TheVariants.{Number}
+use Rattle.answer.specs.declared.Refusal.{Refusal}
 
 -- the names of inode 0 of the volume v
 abbrev pub root_names : List ℕ → Names
@@ -32,6 +31,6 @@ pub record Tables (v : List ℕ) (n : ℕ) (places marks tree : List ℕ) : Type
   pub settled : TreeOf (word v) tree
 
 -- r: the number of the first check that holds, or the count of names of inode 0 where none does
-pub record Gated (v : List ℕ) (checks : Checks) (r : Answer) (places marks tree : List ℕ) : Type 0 where
+pub record Gated (v : List ℕ) (checks : Checks) (r : Result ℕ Refusal) (places marks tree : List ℕ) : Type 0 where
   pub answer : meaning r ≡ numbered (first_refusal checks (done (length (root_names v))))
-  pub tables : (n : ℕ) → r ≡ Number n → Tables v n places marks tree
+  pub tables : IfOk r (λ n. Tables v n places marks tree)

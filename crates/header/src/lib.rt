@@ -16,22 +16,10 @@ const HEADER_BYTES: usize = 24;
 fn sizes_ok(pages: u64, inodes: u64) -> bool
     ensures { result ≡ sizes_ok pages inodes }
 {
-    if pages < 16 {
-        return false;
-    }
-    if 4096 < pages {
-        return false;
-    }
-    if inodes < 8 {
-        return false;
-    }
-    if 256 < inodes {
-        return false;
-    }
-    if inodes % 8 != 0 {
-        return false;
-    }
-    inodes / 8 + 4 <= pages
+    (16..=4096).contains(&pages)
+        && (8..=256).contains(&inodes)
+        && inodes % 8 == 0
+        && inodes / 8 + 4 <= pages
 }
 
 // Answers whether a volume may have so many pages and inodes, and a slice of len bytes is exactly that many pages long.
@@ -39,10 +27,7 @@ fn sizes_ok(pages: u64, inodes: u64) -> bool
 pub fn sizes_fit(len: usize, pages: u64, inodes: u64) -> bool
     ensures { result ≡ sizes_ok pages inodes && eqb len (512 * pages) }
 {
-    if !sizes_ok(pages, inodes) {
-        return false;
-    }
-    len as u64 == 512 * pages
+    sizes_ok(pages, inodes) && len as u64 == 512 * pages
 }
 
 // Answers whether v is a volume: its words 0 and 1 are sizes that a volume may have, its word 2 is 1, and it is exactly
@@ -56,8 +41,5 @@ pub fn is_volume(v: &[u8]) -> bool
     }
     let pages = words::word_at(v, layout::PAGES_WORD);
     let inodes = words::word_at(v, layout::INODES_WORD);
-    if !sizes_fit(v.len(), pages, inodes) {
-        return false;
-    }
-    words::word_at(v, layout::KIND_WORD) == 1
+    sizes_fit(v.len(), pages, inodes) && words::word_at(v, layout::KIND_WORD) == 1
 }

@@ -34,7 +34,7 @@ pub extern "C" fn volume_format(volume: &mut [u8], pages: u64, inodes: u64) -> i
     ensures answer { result ≡ code_of (plain (format_answer volume.old pages inodes)) }
     ensures bytes { volume.new ≡ format_volume volume.old pages inodes }
 {
-    answer::code(volume::format(volume, pages, inodes))
+    answer::done_code(volume::format(volume, pages, inodes))
 }
 
 // Carries out the first count words of a list as a store list. Answers 0, or minus the number of the refusal: 2 no
@@ -46,7 +46,7 @@ pub extern "C" fn volume_carry_out(volume: &mut [u8], list: &[u64], count: u64) 
     ensures answer { result ≡ code_of (plain (carry_answer volume.old list.now count)) }
     ensures bytes { volume.new ≡ carry_volume volume.old list.now count }
 {
-    answer::code(volume::carry_out(volume, list, count))
+    answer::done_code(volume::carry_out(volume, list, count))
 }
 
 // Looks a name up in a folder and answers its inode, or minus the number of the refusal: 2 no volume, 3 damaged, 4 journal open,

@@ -1,8 +1,6 @@
 -- The cases of the functions' answers: products that fit, names word by word, a look-up slot by slot, and what noting a name leaves.
-use Rattle.model.proofs.Prelude.{ℕ, zero, suc, ◌+◌, ◌*◌, ◌-◌, ◌/◌, ◌%◌, ◌^◌, ◌≤◌, ◌<◌, ◌≡◌, refl, sym, ◌∙◌, Bool, true, false, not, List, [], ◌∷◌, arith, sub-one, mul-le-mul_left, mul-le-mul_right, mul-lt-mul_of_pos_right, div-lt_iff_lt-mul, eqb, length, get_or, set, length-set, eq-eqb, ne_eqb, le-leb, leb-true, not-true, not-false}
-use mir.Val.{Fits}
-use mir.Syntax.{w64}
-use Rattle.model.specs.Lists.{bit, all}
+use Rattle.model.proofs.Prelude.{ℕ, zero, suc, ◌+◌, ◌*◌, ◌-◌, ◌/◌, ◌%◌, ◌^◌, ◌≤◌, ◌<◌, ◌≡◌, refl, sym, ◌∙◌, Bool, true, false, not, List, [], ◌∷◌, arith, mul-le-mul_left, mul-le-mul_right, mul-lt-mul_of_pos_right, div-lt_iff_lt-mul, eqb, length, get_or, set, length-set, eq-eqb, ne_eqb, le-leb, leb-true, not-true, not-false}
+use Rattle.model.specs.Lists.{all}
 use Rattle.model.specs.Words.{Mem}
 use Rattle.model.proofs.Lists.{all_cons, all_has, has_get_or}
 use Rattle.inode_log.specs.Entries.{name_in}
@@ -25,9 +23,6 @@ weighs x k l h f g =
     omega arith
 
 -- a number of 32 bits, scaled to M slots
-pub scaled_fits : (t M : ℕ) → t < 2 ^ 32 → M ≤ 65536 → Fits w64 (t * M)
-scaled_fits t M h g = let p = product_le t M (2 ^ 32 - 1) 65536 (omega arith) g in record { fits = omega arith }
-
 pub scaled_below : (t M : ℕ) → t < 2 ^ 32 → 0 < M → t * M / 4294967296 < M
 scaled_below t M h g =
     let p : t * M < 2 ^ 32 * M = mul-lt-mul_of_pos_right h g in
@@ -43,19 +38,6 @@ home_is n M a b d e t j f g h i = rw (j, f, g, h, i)
 pub home_below : (n : Name) (M : ℕ) → 0 < M → home_of n M < M
 unfolding home_of spread_of
 home_below n M h = scaled_below _ M (omega arith) h
-
--- the last word of a name decides where the others are the same; x is the length that the code read, and a to e the four words
-pub same_last : (m : Mem) (w : ℕ) (n : Name) (x a b d e : ℕ) → x ≡ m (w + 2) → a ≡ m (w + 3) → a ≡ n.first → b ≡ m (w + 4) → b ≡ n.second
-    → d ≡ m (w + 5) → d ≡ n.third → e ≡ m (w + 6) → e ≡ n.fourth → eqb x n.len ≡ same_name (name_in m w) n
-unfolding same_name name_in
-same_last m w n x a b d e o f g h i j k p q =
-    rw (
-      eq-eqb (m (w + 3)) n.first (sym f ∙ g),
-      eq-eqb (m (w + 4)) n.second (sym h ∙ i),
-      eq-eqb (m (w + 5)) n.third (sym j ∙ k),
-      eq-eqb (m (w + 6)) n.fourth (sym p ∙ q),
-      o,
-    )
 
 -- Slots.
 
@@ -95,20 +77,16 @@ module _ (m : Mem) (l : List ℕ) (n : Name) (z : ℕ) where
       unfolding ends_at
       look_found h = ends (rw (ne_eqb (get_or l s 0) 0 (λ q. f (e ∙ q)), named, h))
 
-      pub look_on : (t : ℕ) → r ≡ false → t ≡ next_slot (length l) s → seek (ends_at m l n) (length l) (k - 1) t ≡ z
+      pub look_on : (j t : ℕ) → k ≡ j + 1 → r ≡ false → t ≡ next_slot (length l) s → seek (ends_at m l n) (length l) j t ≡ z
       unfolding seek ends_at
-      look_on t h q = go k a g
-        where
-          not_here : ends_at m l n s ≡ false
-          not_here = rw (ne_eqb (get_or l s 0) 0 (λ y. f (e ∙ y)), named, h)
+      look_on j t o h q =
+          let not_here : ends_at m l n s ≡ false = rw (ne_eqb (get_or l s 0) 0 (λ y. f (e ∙ y)), named, h) in
+          let d : k ≡ suc j = omega arith in
+          rw q (rw (d, seek, not_here) at a)
 
-          go : (k : ℕ) → seek (ends_at m l n) (length l) k s ≡ z → 0 < k → seek (ends_at m l n) (length l) (k - 1) t ≡ z
-          go zero b d = absurd (omega arith)
-          go (suc k) b d = rw (sub-one, q) (rw (seek, not_here) at b)
-
-  pub look_start : (s : ℕ) → s ≡ home_of n (length l) → z ≡ slot_of m l n → seek (ends_at m l n) (length l) (length l) s ≡ z
+  pub look_start : (s k : ℕ) → s ≡ home_of n (length l) → z ≡ slot_of m l n → k ≡ length l → seek (ends_at m l n) (length l) k s ≡ z
   unfolding slot_of
-  look_start s h g = rw (h, g)
+  look_start s k h g o = rw (o, h, g)
 
   pub look_spent : (k s : ℕ) → seek (ends_at m l n) (length l) k s ≡ z → k ≤ 0 → s ≡ z
   unfolding seek
@@ -136,20 +114,20 @@ module _ (m : Mem) (L : ℕ) (l : List ℕ) (n : Name) (s q : ℕ) (k : Slots L 
       record { some = omega arith; few = omega arith; inside = all_set (lies_in L) l s p k.inside (le-leb (64 * p + 64) L h) }
 
   module _ (p : ℕ) (adds : Bool) where
-    pub note_known : (q ≡ 0 → ⊥) → 64 * p + 64 ≤ L → Noted m L l n p adds 0 (set l s p)
-    unfolding noted bit
-    note_known h i =
-        let z = ne_eqb (held m l n) 0 (λ y. h (held_is ∙ y)) in
-        record { answer = rw z; list = rw (z, ← e); long = length-set l s p; slots = put_slots p i }
-
-    pub note_absent : q ≡ 0 → not adds ≡ true → Noted m L l n p adds 0 l
-    unfolding noted bit
+    pub note_absent : eqb q 0 ≡ true → not adds ≡ true → Noted m L l n p adds false l
+    unfolding noted
     note_absent h i =
-        let z = eq-eqb (held m l n) 0 (sym held_is ∙ h) in
+        let z = rw held_is at h in
         record { answer = rw (z, not-true adds i); list = rw (z, not-true adds i); long = refl; slots = k }
 
-    pub note_new : q ≡ 0 → not adds ≡ false → 64 * p + 64 ≤ L → Noted m L l n p adds 1 (set l s p)
-    unfolding noted bit
+    pub note_new : eqb q 0 ≡ true → not adds ≡ false → 64 * p + 64 ≤ L → Noted m L l n p adds (eqb q 0) (set l s p)
+    unfolding noted
     note_new h i j =
-        let z = eq-eqb (held m l n) 0 (sym held_is ∙ h) in
-        record { answer = rw (z, not-false adds i); list = rw (z, not-false adds i, ← e); long = length-set l s p; slots = put_slots p j }
+        let z = rw held_is at h in
+        record { answer = rw (h, z, not-false adds i); list = rw (z, not-false adds i, ← e); long = length-set l s p; slots = put_slots p j }
+
+    pub note_known : eqb q 0 ≡ false → 64 * p + 64 ≤ L → Noted m L l n p adds (eqb q 0) (set l s p)
+    unfolding noted
+    note_known h i =
+        let z = rw held_is at h in
+        record { answer = rw (h, z); list = rw (z, ← e); long = length-set l s p; slots = put_slots p i }

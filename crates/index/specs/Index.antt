@@ -1,7 +1,7 @@
 -- An index of names, as a list of slots. A slot holds the place of the last entry so far that has a name, or 0 where it is empty; a
 -- place is an entry's first word divided by 8. m are the volume's words. Laws: proofs/Kept.antt.
 use Rattle.std.specs.Prelude.{ℕ, zero, suc, ◌+◌, ◌*◌, ◌/◌, ◌%◌, ◌^◌, ◌≤◌, ◌<◌, ◌≡◌, Bool, true, cond, ◌&&◌, ◌||◌, not, List, eqb, leb, length, get_or, set}
-use Rattle.model.specs.Lists.{bit, all, filter}
+use Rattle.model.specs.Lists.{all, filter}
 use Rattle.model.specs.Words.{Mem}
 use Rattle.inode_log.specs.Entries.{name_in}
 use Rattle.inode_log.specs.declared.Name.{Name}
@@ -68,9 +68,9 @@ pub record Slots (L : ℕ) (l : List ℕ) : Type 0 where
   pub few : length l ≤ 65536
   pub inside : all (lies_in L) l ≡ true
 
--- r and k are what noting a name in the slots l answered and left: whether the name is new, as a number, and the slots
-pub record Noted (m : Mem) (L : ℕ) (l : List ℕ) (n : Name) (p : ℕ) (adds : Bool) (r : ℕ) (k : List ℕ) : Type 0 where
-  pub answer : r ≡ bit (eqb (held m l n) 0 && adds)
+-- r and k are what noting a name in the slots l answered and left: whether the name is new, and the slots
+pub record Noted (m : Mem) (L : ℕ) (l : List ℕ) (n : Name) (p : ℕ) (adds r : Bool) (k : List ℕ) : Type 0 where
+  pub answer : r ≡ eqb (held m l n) 0 && adds
   pub list : k ≡ noted m l n p adds
   pub long : length k ≡ length l
   pub slots : Slots L k

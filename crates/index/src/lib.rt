@@ -1,6 +1,7 @@
 // An index of the names that a directory's log adds: a table of slots with open addressing. A slot holds the place of the last entry
 // so far that has a name, or 0 where it is empty; a place is an entry's first word divided by 8. No slot is ever emptied, so that a
 // look-up ends at the slot of its name, or at an empty one. v is the volume, in which the names stand.
+// Kept: an empty slot is a 0 and no None, so that the large table takes two bytes a slot, in fixed memory.
 #![tactic(auto)]
 
 ghost use Rattle.std.specs.Prelude.{◌≡◌, ◌+◌, ◌*◌, ◌^◌, ◌≤◌, ◌<◌, length, get_or};
@@ -52,28 +53,12 @@ fn has_name(v: &[u8], place: usize, name: Name) -> bool
     ensures { result ≡ same_name (name_in (word v.now) (8 * place)) name }
 {
     let at = 8 * place;
-    if words::word_at(v, at + 3) != name.first {
-        return false;
-    }
-    if words::word_at(v, at + 4) != name.second {
-        return false;
-    }
-    if words::word_at(v, at + 5) != name.third {
-        return false;
-    }
-    if words::word_at(v, at + 6) != name.fourth {
-        return false;
-    }
-    words::word_at(v, at + 2) == name.len
-}
-
-// Answers what slot s holds.
-// Example: of slots that are all 0 slot(index, 5) is 0.
-fn slot(index: &[u16], s: usize) -> usize
-    requires { s < length index.now }
-    ensures { (result ≡ get_or index.now s 0) × (result < 65536) }
-{
-    words::wide_index(index[s])
+    // Kept: word by word, since a slot of another name mostly differs in the first, and the others are then not read.
+    words::word_at(v, at + 3) == name.first
+        && words::word_at(v, at + 4) == name.second
+        && words::word_at(v, at + 5) == name.third
+        && words::word_at(v, at + 6) == name.fourth
+        && words::word_at(v, at + 2) == name.len
 }
 
 // Answers the slot after s, of so many: after the last comes the first.
@@ -82,10 +67,7 @@ fn next_slot(s: usize, slots: usize) -> usize
     requires { s < slots }
     ensures { (result ≡ next_slot slots s) × (result < slots) }
 {
-    if s + 1 == slots {
-        return 0;
-    }
-    s + 1
+    if s + 1 == slots { 0 } else { s + 1 }
 }
 
 // Answers the slot at which the look-up of a name ends: from its home on, the first that is empty or holds the place of an entry of
@@ -97,17 +79,12 @@ fn slot_of(v: &[u8], index: &[u16], name: Name) -> usize
 {
     let slots = index.len();
     let mut s = home(name, slots);
-    let mut left = slots;
-    while 0 < left {
-        let place = slot(index, s);
-        if place == 0 {
-            return s;
-        }
-        if has_name(v, place, name) {
+    for _ in 0..slots {
+        let place = usize::from(index[s]);
+        if place == 0 || has_name(v, place, name) {
             return s;
         }
         s = next_slot(s, slots);
-        left = left - 1;
     }
     s
 }
@@ -118,25 +95,22 @@ pub fn last(v: &[u8], index: &[u16], name: Name) -> usize
     requires { Slots (length v.now) index.now }
     ensures { result ≡ held (word v.now) index.now name }
 {
-    slot(index, slot_of(v, index, name))
+    usize::from(index[slot_of(v, index, name)])
 }
 
 // Makes the entry at a place the last one of its name. A name that the index does not hold is put in only where the entry adds it.
-// Answers 1 where it was put in, and 0 where not.
-// Example: of slots that are all 0 note(v, index, name, 264, false) is 0 and leaves them, and note(v, index, name, 264, true) is 1;
-// after that last(v, index, name) is 264.
-pub fn note(v: &[u8], index: &mut [u16], name: Name, place: usize, adds: bool) -> usize
+// Answers whether it was put in.
+// Example: of slots that are all 0 note(v, index, name, 264, false) is false and leaves them, and note(v, index, name, 264, true) is
+// true; after that last(v, index, name) is 264.
+pub fn note(v: &[u8], index: &mut [u16], name: Name, place: usize, adds: bool) -> bool
     requires { Slots (length v.now) index.old × (64 * place + 64 ≤ length v.now) × (place < 65536) }
     ensures { Noted (word v.now) (length v.now) index.old name place adds result index.new }
 {
     let s = slot_of(v, index, name);
-    if slot(index, s) != 0 {
-        index[s] = place as u16;
-        return 0;
-    }
-    if !adds {
-        return 0;
+    let new = index[s] == 0;
+    if new && !adds {
+        return false;
     }
     index[s] = place as u16;
-    1
+    new
 }

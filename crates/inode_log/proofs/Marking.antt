@@ -15,7 +15,7 @@ pub record Onward (o : Option (List ℕ)) (u : List ℕ) (o₀ : Option (List �
 pub not_walked : (o : Option (List ℕ)) (u v : List ℕ) → o ≡ none → Walked o u false v
 not_walked o u v e = record { answer = rw e; list = λ y. no y }
 
--- One page is taken: u are the marks before and v after, f is what `take_page` answered.
+-- One page is taken: u are the marks before and v after, f is what `take` answered.
 module _ (p : ℕ) (u v : List ℕ) (f : Bool) (e : f ≡ eqb (get_or u p 0) 0) (s : v ≡ set u p 1) where
   took : not f ≡ false → eqb (get_or u p 0) 0 ≡ true
   took n = sym e ∙ not-false f n
@@ -113,5 +113,7 @@ module _ (m : Mem) (P N : ℕ) where
             let o = not_walked (walk m P N (n - 1) x q) v v (walk_out (n - 1) x q (page_out P N x b e z)) in
             on.whole false v (rw onto_rest (onto_walked p u v f g s (walk m P N (n - 1) x q) false v y o))
 
-        pub walk_turn : Onward (walk m P N (n - 1) x q) v o₀ u₀
-        walk_turn = record { whole = λ b w h. on.whole b w (rw onto_rest (onto_walked p u v f g s (walk m P N (n - 1) x q) b w y h)) }
+        -- k turns are left then
+        pub walk_turn : (k : ℕ) → k ≡ n - 1 → Onward (walk m P N k x q) v o₀ u₀
+        walk_turn k t =
+            record { whole = λ b w h. on.whole b w (rw onto_rest (onto_walked p u v f g s (walk m P N (n - 1) x q) b w y (rw (← t) h))) }

@@ -78,14 +78,6 @@ module _ (u : Mem) (P N : ℕ) where
     pub state_low : r ≤ 7
     state_low = j.low
 
-  pub others_done : (k : ℕ) (b t : List ℕ) → Below u P N k b → States u k t → k ≤ N → N ≤ k → Inspected u P N true b t
-  others_done k b t g w l h =
-      let s : k ≡ N = omega arith in
-      record {
-        judged = record { answer = rw (rw s at g.good, rw s at g.once); list = λ _. rw s at g.list };
-        states = λ _. rw s at w;
-      }
-
   -- Inode 0: r is what `judge_root` answered, and b the marks that it left.
 
   none_below : Below u P N 0 no_marks

@@ -9,6 +9,9 @@ ghost use Rattle.model.specs.Journal.{dequeue_word, enqueue_word, target_word, o
 ghost use Rattle.model.specs.Journal.{is_open, view, target_ok, journal_ok};
 ghost use Rattle.journal.specs.Targets.{targets};
 
+// How many entries are open at most. "At most four entries are open."
+const MOST_OPEN: u64 = 4;
+
 // A place in the journal. "A position is below 16 and the one after 15 is 0."
 #[derive(Clone, Copy)]
 pub struct Position {
@@ -108,13 +111,11 @@ fn viewed_from(v: &[u8], w: usize) -> usize
     ensures { (word v.now result ≡ view (word v.now) w) × (8 * result + 8 ≤ length v.now) }
 {
     let mut p = Position::new(words::word_at(v, layout::DEQUEUE_WORD));
-    let mut left = open_count(v);
-    while 0 < left {
+    for _ in 0..open_count(v) {
         if target_at(v, p) == (w as u64) {
             return old_word(p);
         }
         p = p.next();
-        left = left - 1;
     }
     w
 }
@@ -137,13 +138,11 @@ fn has_target(v: &[u8], from: Position, count: u64, t: u64) -> bool
     ensures { result ≡ has t (targets (word v.now) count from.at) }
 {
     let mut p = from;
-    let mut left = count;
-    while 0 < left {
+    for _ in 0..count {
         if target_at(v, p) == t {
             return true;
         }
         p = p.next();
-        left = left - 1;
     }
     false
 }
@@ -154,13 +153,7 @@ fn target_ok(inodes: u64, t: u64) -> bool
     requires { inodes ≤ 256 }
     ensures { result ≡ target_ok inodes t }
 {
-    if t < 64 {
-        return false;
-    }
-    if layout::valid_word(inodes as usize) as u64 <= t {
-        return false;
-    }
-    t % 8 < 3
+    64 <= t && t < layout::valid_word(inodes as usize) as u64 && t % 8 < 3
 }
 
 // Answers whether the targets of the open entries are all valid, head or tail words of inodes.
@@ -170,13 +163,11 @@ fn targets_ok(v: &[u8], inodes: u64) -> bool
     ensures { result ≡ all (target_ok inodes) (open_targets (word v.now)) }
 {
     let mut p = Position::new(words::word_at(v, layout::DEQUEUE_WORD));
-    let mut left = open_count(v);
-    while 0 < left {
+    for _ in 0..open_count(v) {
         if !target_ok(inodes, target_at(v, p)) {
             return false;
         }
         p = p.next();
-        left = left - 1;
     }
     true
 }
@@ -188,11 +179,9 @@ fn targets_differ(v: &[u8]) -> bool
     ensures { result ≡ distinct (open_targets (word v.now)) }
 {
     let mut p = Position::new(words::word_at(v, layout::DEQUEUE_WORD));
-    let mut left = open_count(v);
-    while 0 < left {
+    for left in (0..open_count(v)).rev() {
         let t = target_at(v, p);
         p = p.next();
-        left = left - 1;
         if has_target(v, p, left, t) {
             return false;
         }
@@ -207,17 +196,9 @@ pub fn journal_ok(v: &[u8], inodes: u64) -> bool
     requires { (512 ≤ length v.now) × (inodes ≤ 256) }
     ensures { result ≡ journal_ok (word v.now) inodes }
 {
-    if Position::COUNT <= words::word_at(v, layout::DEQUEUE_WORD) {
-        return false;
-    }
-    if Position::COUNT <= words::word_at(v, layout::ENQUEUE_WORD) {
-        return false;
-    }
-    if 4 < open_count(v) {
-        return false;
-    }
-    if !targets_ok(v, inodes) {
-        return false;
-    }
-    targets_differ(v)
+    words::word_at(v, layout::DEQUEUE_WORD) < Position::COUNT
+        && words::word_at(v, layout::ENQUEUE_WORD) < Position::COUNT
+        && open_count(v) <= MOST_OPEN
+        && targets_ok(v, inodes)
+        && targets_differ(v)
 }

@@ -1,6 +1,7 @@
 -- A log laid step by step: a page is turned where the tail's page is full, and an entry takes the next slot; each step leaves less to lay.
-use Rattle.model.proofs.Prelude.{ℕ, zero, suc, ◌+◌, ◌*◌, ◌-◌, ◌/◌, ◌%◌, ◌≤◌, ◌<◌, ◌≡◌, refl, sym, ap, ◌∙◌, fun_ext, Bool, true, false, ◌&&◌, List, [], ◌∷◌, ◌++◌, append-nil, arith, add-one, zero-add, and-false, leb, ltb, length, get_or, take, drop, length-append, eq-eqb, ne_eqb, lt-ltb, le-ltb, lt-leb}
-use Rattle.model.specs.Lists.{lowest, lowest_few, has, index_of, or_else}
+use Rattle.model.proofs.Prelude.{ℕ, zero, suc, ◌+◌, ◌*◌, ◌-◌, ◌/◌, ◌%◌, ◌≤◌, ◌<◌, ◌≡◌, refl, sym, ap, ◌∙◌, fun_ext, some, Bool, true, false, ◌&&◌, List, [], ◌∷◌, ◌++◌, append-nil, arith, add-one, zero-add, and-false, leb, ltb, length, get_or, take, drop, length-append, eq-eqb, ne_eqb, lt-ltb, le-ltb, lt-leb}
+use Rattle.std.specs.Prelude.{Option, Some, None, IsSome}
+use Rattle.model.specs.Lists.{lowest, lowest_few, has, index_of}
 use Rattle.model.specs.Layout.{footer}
 use Rattle.model.specs.Stores.{one_word, no_words, run, both}
 use Rattle.model.specs.Calls.{lay_entries, tail_after}
@@ -11,7 +12,8 @@ use Rattle.marks.specs.Marks.{unmarked}
 use Rattle.layout.specs.declared.Sizes.{Sizes}
 use Rattle.stores.specs.Added.{Added, element, element_from}
 use Rattle.stores.proofs.Groups.{adding_all, adding_step, adding_then, added_none, run_same, slice_run}
-use Rattle.space.proofs.Few.{few_next, few_found_first}
+use Rattle.layout.specs.Options.{to_model}
+use Rattle.space.proofs.Few.{few_next, few_nowhere}
 use Rattle.entries.specs.Table.{part, entries_of}
 use Rattle.entries.proofs.Entries.{length_entries}
 use Rattle.laying.specs.declared.Laid.{Laid}
@@ -117,16 +119,15 @@ module _ (b : List ℕ) (s : Sizes) where
   head_some g n e = by_eq n 0 (λ z. rw (eq-eqb n 0 z)) (λ z. rw (ne_eqb n 0 z, ne_eqb g.tail 0 e))
 
   -- A page is turned: p is the page that is taken, and x the head then.
-  module _ (g : Laid) (p : ℕ) (e : p ≡ or_else (lowest f (P - g.from) g.from) P) (x : ℕ) where
+  module _ (g : Laid) (p : ℕ) (e : lowest f (P - g.from) g.from ≡ some p) (x : ℕ) where
     abbrev next : ℕ → Laid
     next z = record { end = z; head = x; tail = 512 * p; from = p + 1 }
 
     taken : (n : ℕ) → length (few g (n + 1)) ≡ n + 1 → (few g (n + 1) ≡ p ∷ lowest_few f (P - (p + 1)) (p + 1) n) × (g.from ≤ p) × (p < P) × (f p ≡ true) × (0 < p)
     taken n h =
-        let c = few_found_first f P g.from n p e h in
-        let a = few_next f P g.from n p e c in
+        let a = few_next f P g.from n p e in
         let y = (few_holds f (P - g.from) g.from (n + 1) p (rw a.0 (has_head p (lowest_few f (P - (p + 1)) (p + 1) n)))).0 in
-        (a.0, a.1, c, y, (may_bounds p y).0)
+        (a.0, a.1, (may_bounds p y).1, y, (may_bounds p y).0)
 
     module _ (most : P ≤ 4096) (pos : 0 < p) (n z : ℕ) (need : needed_at g.tail n ≡ needed_at (512 * p) n + 1) (y : Layable b s g n) where
       abbrev rest : List ℕ
@@ -158,7 +159,7 @@ module _ (b : List ℕ) (s : Sizes) where
       left_next k =
           let d = needed_at (512 * p) n in
           let c : d + 1 + k ≡ d + k + 1 = omega arith in
-          let t : few g (d + k + 1) ≡ p ∷ lowest_few f (P - (p + 1)) (p + 1) (d + k) = (few_next f P g.from (d + k) p e pages_next.2).0 in
+          let t : few g (d + k + 1) ≡ p ∷ lowest_few f (P - (p + 1)) (p + 1) (d + k) = (few_next f P g.from (d + k) p e).0 in
           rw (need, c, t, add-one d)
 
       off_next : has (g.tail / 512) (p ∷ rest) ≡ false
@@ -171,11 +172,26 @@ module _ (b : List ℕ) (s : Sizes) where
   module _ (most : P ≤ 4096) (l : List ℕ) (g : Laid) (y : Layable b s g 1) where
     open y use {slot, whole}
 
-    pub turned_same : (g.tail ≡ 0 → ⊥) → (g.tail % 512 ≡ 448 → ⊥) → Turned b s l g g l
-    turned_same h k = record { there = h; slot = omega arith; low = y.low; end = omega arith; laying = λ e es o. laying_all l g (e ∷ es) o }
+    -- o is what `next_free` answered
+    module _ (o : Option ℕ) (q : to_model o ≡ lowest f (P - g.from) g.from) where
+      some_page : (o : Option ℕ) → to_model o ≡ lowest f (P - g.from) g.from → needed_at g.tail 1 ≡ 1 → IsSome o
+      some_page None q a =
+          let z = y.enough in
+          let n : length (few g (needed_at g.tail 1)) ≡ 0 = ap length (few_nowhere f P g.from (needed_at g.tail 1) (sym q)) in
+          absurd (omega arith)
+      some_page (Some p) q a = refl
+
+      pub first_page : g.tail ≡ 0 → IsSome o
+      first_page h = some_page o q (needed_none g.tail 1 h ∙ (omega arith))
+
+      pub linked_page : (g.tail ≡ 0 → ⊥) → g.tail % 512 ≡ 448 → IsSome o
+      linked_page h k = some_page o q (needed_one g.tail 1 h ∙ (omega arith))
 
     -- p is the page that is taken
-    module _ (p : ℕ) (e : p ≡ or_else (lowest f (P - g.from) g.from) P) where
+    module _ (o : Option ℕ) (q : to_model o ≡ lowest f (P - g.from) g.from) (p : ℕ) (w : o ≡ Some p) where
+      e : lowest f (P - g.from) g.from ≡ some p
+      e = sym q ∙ ap to_model w
+
       pub turned_first : g.tail ≡ 0 → Turned b s l g (record { end = g.end; head = p; tail = 512 * p; from = p + 1 }) l
       unfolding to_lay tail_behind pages_behind
       turned_first h =

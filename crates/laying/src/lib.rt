@@ -7,6 +7,7 @@ ghost use Rattle.model.specs.Calls.{pages_for};
 ghost use Rattle.laying.specs.Laying.{needed_at, Layable, Turned, Lays, LogLaid};
 
 use layout::Sizes;
+use marks::Marks;
 
 // Answers how many log pages n entries fill.
 // Example: pages_for(0) is 0, pages_for(7) is 1 and pages_for(8) is 2.
@@ -49,64 +50,54 @@ pub struct Laid {
 // Takes a fresh page where the tail's page has no room for an entry, with a link to it in the page left behind, or where the log has no
 // page: that one is its head. Answers how far the log is laid then.
 // Example: with tail 1,472, behind the last entry of page 2, and page 5 the lowest free one, it puts 184, 5, and the tail is 2,560.
-fn turn_page(list: &mut [u64], marks: &[u8; 4096], sizes: Sizes, g: Laid) -> Laid
+fn turn_page(list: &mut [u64], marks: &Marks, sizes: Sizes, g: Laid) -> Laid
     requires { (sizes.pages ≤ 4096) × Layable marks.now sizes g 1 × (g.end + 2 ≤ length list.old) }
     ensures { Turned marks.now sizes list.old g result list.new }
 {
-    let end = g.end;
-    let head = g.head;
-    let tail = g.tail;
-    let from = g.from;
-    if tail == 0 {
-        let p = space::next_free(marks, sizes, from);
+    if g.tail == 0 {
+        let p = space::next_free(marks, sizes, g.from).unwrap();
         return Laid {
-            end,
             head: p,
             tail: layout::PAGE * p,
             from: p + 1,
+            ..g
         };
     }
-    if tail % layout::PAGE != layout::ENTRY * layout::PAGE_ENTRIES {
-        return Laid {
-            end,
-            head,
-            tail,
-            from,
-        };
+    if g.tail % layout::PAGE != layout::ENTRY * layout::PAGE_ENTRIES {
+        return g;
     }
-    let p = space::next_free(marks, sizes, from);
-    let link = layout::footer(tail / layout::PAGE);
+    let p = space::next_free(marks, sizes, g.from).unwrap();
+    let link = layout::footer(g.tail / layout::PAGE);
     Laid {
-        end: stores::put(list, 0, end, link as u64, p as u64),
-        head,
+        end: stores::put(list, 0, g.end, link as u64, p as u64),
         tail: layout::PAGE * p,
         from: p + 1,
+        ..g
     }
 }
 
 // Lays entries, eight words each, behind the tail. Answers how far the log is laid then.
 // Example: with tail 1,216 two entries go to the words 152 to 167, and the tail is 1,344.
-fn lay_entries(list: &mut [u64], marks: &[u8; 4096], sizes: Sizes, g: Laid, entries: &[u64]) -> Laid
+fn lay_entries(list: &mut [u64], marks: &Marks, sizes: Sizes, g: Laid, entries: &[u64]) -> Laid
     requires { (sizes.pages ≤ 4096) × Layable marks.now sizes g (length entries.now / 8)
         × (g.end + 18 * (length entries.now / 8) ≤ length list.old) }
     ensures { Lays marks.now sizes list.old g entries.now result list.new }
 {
     let mut h = g;
-    let mut i: usize = 0;
-    let n = entries.len() / layout::ENTRY_WORDS;
-    while i < n {
+    for i in 0..entries.len() / layout::ENTRY_WORDS {
         let a = layout::ENTRY_WORDS * i;
-        let b = a + layout::ENTRY_WORDS;
         let t = turn_page(list, marks, sizes, h);
-        let tail = t.tail;
-        let end = stores::put_words(list, t.end, tail / 8, &entries[a..b]);
+        let end = stores::put_words(
+            list,
+            t.end,
+            t.tail / 8,
+            &entries[a..a + layout::ENTRY_WORDS],
+        );
         h = Laid {
             end,
-            head: t.head,
-            tail: tail + layout::ENTRY,
-            from: t.from,
+            tail: t.tail + layout::ENTRY,
+            ..t
         };
-        i = i + 1;
     }
     h
 }
@@ -115,7 +106,7 @@ fn lay_entries(list: &mut [u64], marks: &[u8; 4096], sizes: Sizes, g: Laid, entr
 // Example: with tail 1,216, one entry and no last one it puts the words 152 to 159, and the tail is 1,280.
 pub fn lay_log(
     list: &mut [u64],
-    marks: &[u8; 4096],
+    marks: &Marks,
     sizes: Sizes,
     g: Laid,
     entries: &[u64],

@@ -1,9 +1,10 @@
 // Where things stand in a volume and how much there may be of them: document 01, "Volume". Nothing here looks at more than words 0 and 1.
 #![tactic(auto)]
 
-ghost use Rattle.std.specs.Prelude.{◌≡◌, ◌^◌, ◌≤◌, ◌<◌, max, length};
+ghost use Rattle.std.specs.Prelude.{◌≡◌, ◌^◌, ◌≤◌, ◌<◌, length};
 ghost use Rattle.model.specs.Words.{word};
 ghost use Rattle.model.specs.Layout.{valid_word, head_word, tail_word, type_word, footer};
+ghost use Rattle.layout.specs.Kind.{type_of, Decodes};
 
 // The bytes of a page.
 pub const PAGE: usize = 512;
@@ -44,12 +45,6 @@ pub const MOST_NAMES: usize = 224;
 // The inode of the folder that every other one is reached from; it is a folder whatever its type word holds.
 pub const ROOT: usize = 0;
 
-// The type of a file, as an inode's type word holds it.
-pub const FILE_TYPE: u64 = 0;
-
-// The type of a folder.
-pub const FOLDER_TYPE: u64 = 1;
-
 // The word that holds the page count.
 pub const PAGES_WORD: usize = 0;
 
@@ -71,6 +66,46 @@ pub const LIST_WORDS: usize = 4096;
 // The word index of a fence, in a store list.
 pub const FENCE: u64 = 18446744073709551615;
 
+// What an inode is, as its type word says.
+#[derive(Clone, Copy, PartialEq, Eq)]
+pub enum Kind {
+    File,
+    Folder,
+}
+
+// A type word that says no kind.
+#[derive(Clone, Copy, PartialEq, Eq)]
+pub struct UnknownKind(pub u64);
+
+impl TryFrom<u64> for Kind {
+    type Error = UnknownKind;
+
+    ghost try_from_gives = { Decodes };
+
+    // Answers the kind that a type word says.
+    // Example: Kind::try_from(1) is Ok(Kind::Folder), and Kind::try_from(2) is Err(UnknownKind(2)).
+    fn try_from(word: u64) -> Result<Kind, UnknownKind> {
+        match word {
+            0 => Ok(Kind::File),
+            1 => Ok(Kind::Folder),
+            _ => Err(UnknownKind(word)),
+        }
+    }
+}
+
+impl From<Kind> for u64 {
+    ghost from_gives = { λ kind word. word ≡ type_of kind };
+
+    // Answers the type word of a kind.
+    // Example: u64::from(Kind::Folder) is 1.
+    fn from(kind: Kind) -> u64 {
+        match kind {
+            Kind::File => 0,
+            Kind::Folder => 1,
+        }
+    }
+}
+
 // The sizes of a volume.
 #[derive(Clone, Copy)]
 pub struct Sizes {
@@ -91,6 +126,8 @@ impl Sizes {
         }
     }
 }
+
+// Kept: a function for each word of an inode, since a caller then reads as the papers do, with no number or kind of word beside the inode.
 
 // Answers the word that says whether inode k is valid.
 // Example: valid_word(1) is 72.
@@ -135,15 +172,4 @@ pub fn footer(p: usize) -> usize
     ensures { result ≡ footer p }
 {
     64 * p + 56
-}
-
-// Answers the larger of two numbers.
-// Example: larger(514, 700) is 700.
-pub fn larger(a: u64, b: u64) -> u64
-    ensures { result ≡ max a b }
-{
-    if a < b {
-        return b;
-    }
-    a
 }

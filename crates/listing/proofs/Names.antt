@@ -1,13 +1,14 @@
 -- The line of a name, by what the code read of its entry and what its inode counts; and the loop: the lines from the i-th name on are the
 -- one there and those after it.
-use Rattle.model.proofs.Prelude.{ℕ, ◌+◌, ◌*◌, ◌≤◌, ◌<◌, ◌≡◌, refl, sym, ◌∙◌, ap, true, List, ◌∷◌, ◌++◌, arith, add-one, length, get_or, length-append, slice, slice-cons, length-slice}
+use Rattle.model.proofs.Prelude.{ℕ, ◌+◌, ◌*◌, ◌≤◌, ◌<◌, ◌≡◌, refl, sym, ◌∙◌, ap, true, List, ◌∷◌, ◌++◌, arith, add-one, length, get_or, length-append, drop, drop-cons, drop_of_length-le}
 use Rattle.model.specs.Words.{word}
 use Rattle.model.specs.Journal.{view}
 use Rattle.model.specs.Accept.{is_valid}
 use Rattle.model.specs.Listing.{decimal, name_line, name_lines}
-use Rattle.model.proofs.Lists.{no_length}
+use Rattle.model.specs.Lists.{all}
+use Rattle.model.proofs.Lists.{has_get_or, all_has}
 use Rattle.directory.specs.Fields.{name_at}
-use Rattle.directory.specs.Places.{standing, place_ok, Filled}
+use Rattle.directory.specs.Places.{standing, place_ok}
 use Rattle.lookup.proofs.Places.{place_in}
 use Rattle.names.specs.Listed.{Good}
 use Rattle.names.proofs.Listing.{few_inodes}
@@ -48,47 +49,45 @@ module _ (v : List ℕ) (p k : ℕ) (e : k ≡ word v (8 * p + 1)) where
         → Emitted l at (line_of v p) r n
     file_put l at r n h = rw same_line h
 
--- The loop: the table t has c places; all lines are ls, put into the text l from index `at` on, and the text is x by now.
+-- The loop: the places are ps, and those from the i-th on are left; all lines are ls, put into the text l from index `at` on, and the text is
+-- x by now.
 
-module _ (v : List ℕ) (c i : ℕ) (t : List ℕ) (filled : Filled (word v) (length v) c t) where
-  module _ (p : ℕ) (h : i < c) (e : p ≡ get_or t i 0) where
-    from : standing (word v) (slice i c t) ≡ (name_at (word v) (8 * p), word v (8 * p + 1)) ∷ standing (word v) (slice (i + 1) c t)
+module _ (v ps : List ℕ) (i : ℕ) where
+  module _ (p : ℕ) (h : i < length ps) (e : p ≡ get_or ps i 0) where
+    pub here_ok : all (place_ok (word v) (length v)) ps ≡ true → place_ok (word v) (length v) p ≡ true
+    here_ok a = rw e (all_has (place_ok (word v) (length v)) (get_or ps i 0) ps a (has_get_or ps i h))
+
+    from : standing (word v) (drop i ps) ≡ (name_at (word v) (8 * p), word v (8 * p + 1)) ∷ standing (word v) (drop (i + 1) ps)
     unfolding standing
-    from =
-        let few = filled.few in
-        let long = filled.long in
-        let s : slice i c t ≡ p ∷ slice (i + 1) c t = rw (e, add-one) (slice-cons i c t 0 h (omega arith)) in
-        ap (standing (word v)) s
+    from = let s : drop i ps ≡ p ∷ drop (i + 1) ps = rw (e, add-one) (drop-cons ps i 0 h) in ap (standing (word v)) s
 
-    module _ (a : GoodInodes (view (word v)) (word v 1) (standing (word v) (slice i c t))) where
+    module _ (a : GoodInodes (view (word v)) (word v 1) (standing (word v) (drop i ps))) where
       both : GoodInode (view (word v)) (word v 1) (word v (8 * p + 1))
-          × GoodInodes (view (word v)) (word v 1) (standing (word v) (slice (i + 1) c t))
+          × GoodInodes (view (word v)) (word v 1) (standing (word v) (drop (i + 1) ps))
       unfolding GoodInodes
       both = rw from at a
 
       pub here_inode : GoodInode (view (word v)) (word v 1) (word v (8 * p + 1))
       here_inode = both.0
 
-      pub next_inodes : GoodInodes (view (word v)) (word v 1) (standing (word v) (slice (i + 1) c t))
+      pub next_inodes : GoodInodes (view (word v)) (word v 1) (standing (word v) (drop (i + 1) ps))
       next_inodes = both.1
 
-    module _ (l : List ℕ) (at : ℕ) (ls x : List ℕ) (b : ℕ) (q : Rest l at ls x b (lines_of v (standing (word v) (slice i c t)))) where
-      left : Rest l at ls x b (line_of v p ++ lines_of v (standing (word v) (slice (i + 1) c t)))
+    module _ (l : List ℕ) (at : ℕ) (ls x : List ℕ) (b : ℕ) (q : Rest l at ls x b (lines_of v (standing (word v) (drop i ps)))) where
+      left : Rest l at ls x b (line_of v p ++ lines_of v (standing (word v) (drop (i + 1) ps)))
       unfolding name_lines
       left = rw (from, name_lines) at q
 
       pub here_room : at + length ls ≤ 11264 → b + length (line_of v p) ≤ 11264
       here_room r =
-          let d = left.end in let f = length-append (line_of v p) (lines_of v (standing (word v) (slice (i + 1) c t))) in omega arith
+          let d = left.end in let f = length-append (line_of v p) (lines_of v (standing (word v) (drop (i + 1) ps))) in omega arith
 
       pub next_lines : (y : List ℕ) (d : ℕ) → Emitted x b (line_of v p) d y
-          → Rest l at ls y d (lines_of v (standing (word v) (slice (i + 1) c t)))
+          → Rest l at ls y d (lines_of v (standing (word v) (drop (i + 1) ps)))
       next_lines y d w = rest_next (line_of v p) _ left w
 
-  pub lines_end : (l : List ℕ) (at : ℕ) (ls x : List ℕ) (b : ℕ) → c ≤ i → Rest l at ls x b (lines_of v (standing (word v) (slice i c t)))
+  pub lines_end : (l : List ℕ) (at : ℕ) (ls x : List ℕ) (b : ℕ) → length ps ≤ i
+      → Rest l at ls x b (lines_of v (standing (word v) (drop i ps)))
       → Emitted l at ls b x
   unfolding standing name_lines
-  lines_end l at ls x b h q =
-      let few = filled.few in
-      let long = filled.long in
-      rest_none (rw (no_length (slice i c t) (length-slice i c t (omega arith) ∙ omega arith)) at q)
+  lines_end l at ls x b h q = rest_none (rw (drop_of_length-le ps {i = i} h) at q)

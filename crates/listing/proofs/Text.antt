@@ -1,5 +1,7 @@
 -- What a volume's listing is: the line of the refusal that the gate answers, or the text, read from the gate's tables.
-use Rattle.model.proofs.Prelude.{ℕ, ◌+◌, ◌≤◌, ◌<◌, ◌≡◌, refl, sym, ◌∙◌, ap, true, List, ◌++◌, Option, some, arith, lt-ltb, le-ltb, length, take, drop}
+use Rattle.model.proofs.Prelude.{ℕ, ◌+◌, ◌≤◌, ◌<◌, ◌≡◌, refl, sym, true, List, ◌++◌, arith, lt-ltb, le-ltb, length, take, drop}
+use Rattle.std.specs.Prelude.{Ok, Err}
+use Rattle.model.specs.Lists.{all}
 use Rattle.model.specs.Words.{word}
 use Rattle.model.specs.Layout.{root}
 use Rattle.model.specs.Journal.{view}
@@ -7,18 +9,17 @@ use Rattle.model.specs.Accept.{free_count}
 use Rattle.model.specs.Answer.{done, first_refusal}
 use Rattle.model.specs.Public.{closed_checks}
 use Rattle.model.specs.Listing.{first_line, refusal_line, text_of, text_or, listing_of, listing}
-use Rattle.directory.specs.Places.{standing, Filled}
+use Rattle.directory.specs.Places.{standing, place_ok}
 use Rattle.directory.proofs.Table.{standing_length}
 use Rattle.names.specs.Listed.{Good, Lists}
 use Rattle.names.proofs.Listing.{volume_sizes}
 use Rattle.inodes.specs.Judged.{Served, unmarked_count}
 use Rattle.inodes.proofs.Once.{free_count_lem}
-use Rattle.answer.specs.Meaning.{meaning, refusal_of}
-use Rattle.answer.specs.declared.Answer.{Answer}
-use Rattle.answer.specs.declared.Answer.TheVariants.{Number, NoVolume}
+use Rattle.answer.specs.Meaning.{number_of}
+use Rattle.answer.specs.declared.Refusal.{Refusal}
+use Rattle.answer.specs.declared.Refusal.TheVariants.{NoVolume}
 use Rattle.gate.specs.Gated.{root_names, Gated}
-use Rattle.answer.proofs.Codes.{NoNumber}
-use Rattle.answer.proofs.Checked.{refusal_of_lem, same_refusal, none_refuses}
+use Rattle.answer.proofs.Checked.{same_refusal, none_refuses}
 use Rattle.stores.specs.Emitted.{Emitted}
 use Rattle.stores.proofs.Emitting.{emitted_both, emitted_parts}
 use Rattle.listing.specs.Lines.{GoodInodes, lines_of}
@@ -33,8 +34,8 @@ module _ (v : List ℕ) (g : Good v) (n : ℕ) (places : List ℕ) (t : Lists v 
   pub text_pages : (P : ℕ) → P ≡ word v 0 → P ≤ 4096
   text_pages P p = (volume_sizes v P (word v 1) g.volume p refl).most_pages
 
-  pub text_filled : Filled (word v) (length v) n places
-  text_filled = t.filled
+  pub text_places : all (place_ok (word v) (length v)) (take n places) ≡ true
+  text_places = t.filled.oks
 
   pub text_inodes : GoodInodes (view (word v)) (word v 1) (standing (word v) (take n places))
   text_inodes = rw t.names (names_inodes v g)
@@ -64,18 +65,6 @@ module _ (v : List ℕ) (g : Good v) (n : ℕ) (places : List ℕ) (t : Lists v 
         → Emitted m a (lines_of v (standing (word v) (take n places))) r o → Emitted l 0 (text_of (view (word v)) (word v 0) (word v 1)) r o
     text_put l a m r o e d = rw text_is (emitted_both e d)
 
--- what the gate leaves where it answers a number
-module _ (v : List ℕ) (s : Answer) (places marks tree : List ℕ) (g : Gated v (closed_checks (length v) (word v)) s places marks tree)
-    (n : ℕ) (e : s ≡ Number n) where
-  pub gate_good : Good v
-  gate_good = let t = g.tables n e in record { volume = t.volume; good = t.good }
-
-  pub gate_lists : Lists v root n places
-  gate_lists = (g.tables n e).lists
-
-  pub gate_served : Served (view (word v)) (word v 0) (word v 1) true marks
-  gate_served = (g.tables n e).served
-
 -- The listing of v, put into the text l; m is the text afterwards.
 module _ (v : List ℕ) where
   abbrev text : List ℕ
@@ -86,24 +75,18 @@ module _ (v : List ℕ) where
   behind h = rw (le-ltb 65536 (length v) h)
 
   module _ (l : List ℕ) (r : ℕ) (m : List ℕ) where
-    pub long_put : (x : ℕ) → x ≡ refusal_of (meaning NoVolume) → 65536 < length v → Emitted l 0 (refusal_line x) r m → Emitted l 0 (listing v) r m
+    pub long_put : (x : ℕ) → x ≡ number_of NoVolume → 65536 < length v → Emitted l 0 (refusal_line x) r m → Emitted l 0 (listing v) r m
     unfolding listing listing_of
     long_put x e h q = rw (lt-ltb 65536 (length v) h, ← e) q
 
-    -- g is what the gate answered of v
-    module _ (h : length v ≤ 65536) (s : Answer) (places marks tree : List ℕ)
-        (g : Gated v (closed_checks (length v) (word v)) s places marks tree) where
-      pub refused_put : (x : ℕ) → NoNumber s → x ≡ refusal_of (meaning s) → Emitted l 0 (refusal_line x) r m → Emitted l 0 (listing v) r m
-      refused_put x o e q =
-          let f : List ℕ → Option ℕ = λ y. some (length y) in
-          let all = first_refusal (closed_checks (length v) (word v)) (done text) in
-          let same = same_refusal s (closed_checks (length v) (word v)) _ g.answer f (done text) o in
-          let k = refusal_of_lem s all f (λ y. (length y, refl)) o same in
-          let z : x ≡ k.0 = e ∙ rw (← k.1) at (ap refusal_of same) in
-          rw (behind h, ← k.1, ← z) q
+    module _ (h : length v ≤ 65536) (places marks tree : List ℕ) where
+      pub refused_put : (e : Refusal) → Gated v (closed_checks (length v) (word v)) (Err e) places marks tree → (x : ℕ) → x ≡ number_of e
+          → Emitted l 0 (refusal_line x) r m → Emitted l 0 (listing v) r m
+      refused_put e g x i q = rw (behind h, same_refusal (number_of e) (closed_checks (length v) (word v)) _ g.answer (done text), ← i) q
 
-      pub passed_put : (n : ℕ) → s ≡ Number n → Emitted l 0 (text_of (view (word v)) (word v 0) (word v 1)) r m → Emitted l 0 (listing v) r m
-      passed_put n e q = rw (behind h, none_refuses (closed_checks (length v) (word v)) _ n (rw e at g.answer) (done text)) q
+      pub passed_put : (n : ℕ) → Gated v (closed_checks (length v) (word v)) (Ok n) places marks tree
+          → Emitted l 0 (text_of (view (word v)) (word v 0) (word v 1)) r m → Emitted l 0 (listing v) r m
+      passed_put n g q = rw (behind h, none_refuses (closed_checks (length v) (word v)) _ n g.answer (done text)) q
 
     -- the text afterwards, by parts
     pub listed : length l ≡ 11264 → Emitted l 0 (listing v) r m → (r ≡ length (listing v)) × (r ≤ 11264) × (m ≡ listing v ++ drop r l)

@@ -2,20 +2,23 @@
 // Each function puts its bytes into the text from index at on, and answers the index behind them. v is the volume.
 #![tactic(auto)]
 
-ghost use Rattle.std.specs.Prelude.{◌≡◌, true, [], ◌∷◌, ◌++◌, ◌+◌, ◌*◌, ◌%◌, ◌≤◌, ◌<◌, length, take, drop};
+ghost use Rattle.std.specs.Prelude.{◌≡◌, true, [], ◌∷◌, ◌++◌, ◌+◌, ◌*◌, ◌%◌, ◌≤◌, ◌<◌, length, drop};
+ghost use Rattle.model.specs.Lists.{all};
 ghost use Rattle.model.specs.Words.{word};
 ghost use Rattle.model.specs.Layout.{root};
 ghost use Rattle.model.specs.Journal.{view};
 ghost use Rattle.model.specs.Listing.{decimal, first_line, name_line, refusal_line, text_of, listing};
 ghost use Rattle.directory.specs.Fields.{name_at};
-ghost use Rattle.directory.specs.Places.{place_ok, standing, Filled};
+ghost use Rattle.directory.specs.Places.{place_ok, standing};
 ghost use Rattle.names.specs.Listed.{Good, Lists};
 ghost use Rattle.inodes.specs.Judged.{Served};
 ghost use Rattle.stores.specs.Emitted.{Emitted};
 ghost use Rattle.listing.specs.Lines.{GoodInode, GoodInodes, line_of, lines_of};
 
-use answer::Answer;
+use answer::Refusal;
 use layout::Sizes;
+use marks::Marks;
+use tree::Tree;
 
 // The bytes of the text. No listing is longer: its first line has at most 53, and 224 names have lines of at most 50, since no total has
 // more than 12 digits.
@@ -46,13 +49,9 @@ fn put_bytes(text: &mut [u8; TEXT_BYTES], at: usize, bytes: &[u8]) -> usize
     requires { at + length bytes.now ≤ 11264 }
     ensures { Emitted text.old at bytes.now result text.new }
 {
-    let mut next = at;
-    let mut i: usize = 0;
-    while i < bytes.len() {
-        next = put_byte(text, next, bytes[i]);
-        i = i + 1;
-    }
-    next
+    let end = at + bytes.len();
+    text[at..end].copy_from_slice(bytes);
+    end
 }
 
 // Answers the last decimal digit of a number, as a byte of text.
@@ -153,35 +152,31 @@ fn put_file(text: &mut [u8; TEXT_BYTES], at: usize, v: &[u8], place: usize, inod
         × GoodInode (view (word v.now)) (word v.now 1) (word v.now (8 * place + 1)) × (at + length (line_of v.now place) ≤ 11264) }
     ensures { Emitted text.old at (line_of v.now place) result text.new }
 {
-    let inode = names::inode_at(v, place);
+    let inode = directory::inode_at(v, place);
     let mut places = [0u16; 224];
     let size = totals::name_total(v, inode, inodes, &mut places);
     put_line(text, at, v, place, inode as u64, size)
 }
 
-// Puts the lines of the names at the first count places of a table, and answers the index behind them.
-// Example: where the table begins 264, 265 and the entries there add "A1" to inode 1 and "B" to inode 2, files of 514 and 0 bytes,
-// put_files(text, 0, v, places, 2, 8) makes the text begin "1 514 A1", a newline, "2 0 B" and a newline, and is 15.
+// Puts the lines of the names at these places, and answers the index behind them.
+// Example: where the entries at 264 and 265 add "A1" to inode 1 and "B" to inode 2, files of 514 and 0 bytes, put_files(text, 0, v, places,
+// 8) of the places 264 and 265 makes the text begin "1 514 A1", a newline, "2 0 B" and a newline, and is 15.
 fn put_files(
     text: &mut [u8; TEXT_BYTES],
     at: usize,
     v: &[u8],
-    places: &[u16; 224],
-    count: usize,
+    places: &[u16],
     inodes: usize,
 ) -> usize
-    requires { Good v.now × (inodes ≡ word v.now 1) × Filled (word v.now) (length v.now) count places.now
-        × GoodInodes (view (word v.now)) (word v.now 1) (standing (word v.now) (take count places.now))
-        × (at + length (lines_of v.now (standing (word v.now) (take count places.now))) ≤ 11264) }
-    ensures { Emitted text.old at
-        (lines_of v.now (standing (word v.now) (take count places.now))) result text.new }
+    requires { Good v.now × (inodes ≡ word v.now 1) × (all (place_ok (word v.now) (length v.now)) places.now ≡ true)
+        × GoodInodes (view (word v.now)) (word v.now 1) (standing (word v.now) places.now)
+        × (at + length (lines_of v.now (standing (word v.now) places.now)) ≤ 11264) }
+    ensures { Emitted text.old at (lines_of v.now (standing (word v.now) places.now)) result
+        text.new }
 {
     let mut next = at;
-    let mut i: usize = 0;
-    while i < count {
-        let place = directory::place(places, i);
-        next = put_file(text, next, v, place, inodes);
-        i = i + 1;
+    for place in places {
+        next = put_file(text, next, v, usize::from(*place), inodes);
     }
     next
 }
@@ -194,7 +189,7 @@ fn put_text(
     text: &mut [u8; TEXT_BYTES],
     v: &[u8],
     places: &[u16; 224],
-    marks: &[u8; 4096],
+    marks: &Marks,
     count: usize,
 ) -> usize
     requires { Good v.now × Lists v.now root count places.now
@@ -203,9 +198,9 @@ fn put_text(
         (word v.now 1)) result text.new }
 {
     let sizes = Sizes::of(v);
-    let free = inodes::free_count(marks, sizes.pages, sizes.inodes);
+    let free = inodes::free_count(marks, sizes);
     let at = put_first(text, 0, count as u64, free);
-    put_files(text, at, v, places, count, sizes.inodes)
+    put_files(text, at, v, &places[..count], sizes.inodes)
 }
 
 // Lays what volume_list prints of a volume into the text, and answers how many bytes it is; the rest of the text keeps its bytes. v may
@@ -218,14 +213,13 @@ pub fn lay_listing(v: &[u8], text: &mut [u8; TEXT_BYTES]) -> usize
         × (text.new ≡ listing v.now ++ drop result text.old) }
 {
     if MOST_BYTES < v.len() {
-        return put_refusal(text, 0, answer::refusal(Answer::NoVolume));
+        return put_refusal(text, 0, Refusal::NoVolume.number());
     }
     let mut places = [0u16; 224];
-    let mut marks = [0u8; 4096];
-    let mut tree = [0u16; 256];
-    let gate = gate::closed(v, &mut places, &mut marks, &mut tree);
-    let Answer::Number(count) = gate else {
-        return put_refusal(text, 0, answer::refusal(gate));
-    };
-    put_text(text, v, &places, &marks, count as usize)
+    let mut marks = Marks::new();
+    let mut tree = Tree::new();
+    match gate::closed(v, &mut places, &mut marks, &mut tree) {
+        Ok(count) => put_text(text, v, &places, &marks, count),
+        Err(refusal) => put_refusal(text, 0, refusal.number()),
+    }
 }

@@ -1,12 +1,14 @@
 -- Names in fields: a field that is as it should be is its name and zeros, since what follows the name is.
-use Rattle.model.proofs.Prelude.{ℕ, zero, suc, ◌+◌, ◌*◌, ◌-◌, ◌≤◌, ◌<◌, ◌≡◌, refl, sym, ◌∙◌, ap, Bool, true, false, List, ◌∷◌, ◌++◌, arith, length, get_or, take, drop, length-take, length-drop, get_or-eq_default, ext_get_or, get_or-take, get_or-drop, eqb-true, leb-true}
+use Rattle.model.proofs.Prelude.{ℕ, zero, suc, ◌+◌, ◌*◌, ◌-◌, ◌≤◌, ◌<◌, ◌≡◌, refl, sym, ◌∙◌, ap, Bool, true, List, ◌∷◌, ◌++◌, arith, length, get_or, take, drop, length-take, length-drop, get_or-eq_default, ext_get_or, get_or-take, get_or-drop, eqb, eqb-true, leb-true}
 use Rattle.model.specs.Lists.{all, same_list, values_from}
-use Rattle.model.specs.Words.{Mem, byte_at}
+use Rattle.model.specs.Words.{Mem, word, byte_at}
 use Rattle.model.specs.Entry.{padded, name_field, is_zero, field_ok}
 use Rattle.model.proofs.Tests.{by_lt, ands}
-use Rattle.model.proofs.Lists.{length_values, has_get_or, all_has, same_ne}
+use Rattle.model.proofs.Lists.{length_values, has_get_or, all_has}
 use Rattle.model.proofs.Log.Decode.{length_padded, padded_at}
 use Rattle.directory.specs.Fields.{name_at, field_at}
+use Rattle.std.specs.Cmp.Lexicographic.{pointwise}
+use Rattle.lookup.proofs.Bytes.{same_bytes, part_bytes}
 
 -- the first k of n values
 take_values : (f : ℕ → ℕ) (x n k : ℕ) → k ≤ n → take k (values_from f x n) ≡ values_from f x k
@@ -47,16 +49,24 @@ module _ (m : Mem) (w x : ℕ) (ok : field_at m w ≡ true) (e : x ≡ m (w + 2)
   pub length_is : x ≡ length (name_at m w)
   length_is = sym (rw name_bytes_lem (length_values (byte_at m) (8 * (w + 3)) x))
 
-  module _ (n : List ℕ) where
-    pub named_not : (x ≡ length n → ⊥) → false ≡ same_list (name_at m w) n
-    named_not h = sym (same_ne (name_at m w) n (λ q. h (length_is ∙ ap length q)))
+-- The volume v, of whose bytes n make the name field or the name of the entry at place p.
 
-    pub named_if : (r : Bool) → x ≡ length n → r ≡ same_list (values_from (byte_at m) (8 * (w + 3)) (length n)) n → r ≡ same_list (name_at m w) n
-    named_if r h g = rw (name_bytes_lem, h) g
+pub field_long : (v b : List ℕ) (p n k : ℕ) → 64 * p + 64 ≤ length v → k ≡ 32 → 32 ≤ length b
+    → length (take 32 b) ≡ length (take k (drop (8 * (8 * p + 3)) v))
+field_long v b p n k h g l = rw (length-take, length-take, length-drop) (omega arith)
 
-pub laid_name : (m : Mem) (w : ℕ) (b c : List ℕ) → field_at m w ≡ true → c ≡ values_from (byte_at m) (8 * (w + 3)) 32 ++ drop 32 b
-    → c ≡ padded (name_at m w) ++ drop 32 b
-unfolding name_at name_field
-laid_name m w b c ok h =
-    h ∙ ap (λ (r : List ℕ). r ++ drop 32 b)
-    (field_is (m (w + 2)) (values_from (byte_at m) (8 * (w + 3)) 32) ok (length_values (byte_at m) (8 * (w + 3)) 32))
+module _ (v : List ℕ) (bytes : (i : ℕ) → get_or v i 0 < 256) (p : ℕ) (inside : 64 * p + 64 ≤ length v) (ok : field_at (word v) (8 * p) ≡ true) where
+  pub named : (n : List ℕ) (x k : ℕ) (r : Bool) → x ≡ word v (8 * p + 2) → k ≡ x → r ≡ pointwise eqb (take k (drop (8 * (8 * p + 3)) v)) n
+      → r ≡ same_list (name_at (word v) (8 * p)) n
+  named n x k r e q a =
+      let l = length_short (word v) (8 * p) x ok e in
+      a ∙ sym (same_bytes _ n)
+      ∙ ap (λ (b : List ℕ). same_list b n) (part_bytes v (8 * (8 * p + 3)) x k bytes (omega arith) q ∙ sym (name_bytes_lem (word v) (8 * p) x ok e))
+
+  pub laid_name : (c rest : List ℕ) (k : ℕ) → k ≡ 32 → c ≡ take k (drop (8 * (8 * p + 3)) v)
+      → c ++ rest ≡ padded (name_at (word v) (8 * p)) ++ rest
+  unfolding name_at name_field
+  laid_name c rest k q h =
+      ap (λ (r : List ℕ). r ++ rest)
+      (h ∙ part_bytes v (8 * (8 * p + 3)) 32 k bytes (omega arith) q
+      ∙ field_is (word v (8 * p + 2)) (values_from (byte_at (word v)) (8 * (8 * p + 3)) 32) ok (length_values (byte_at (word v)) (8 * (8 * p + 3)) 32))

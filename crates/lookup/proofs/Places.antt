@@ -1,12 +1,15 @@
 -- Places of a table: each is one of an entry with a name, and the names from the i-th on are the one there and those after it.
-use Rattle.model.proofs.Prelude.{ℕ, ◌+◌, ◌*◌, ◌≤◌, ◌<◌, ◌≡◌, sym, ◌∙◌, Bool, true, false, List, ◌∷◌, arith, add-one, length, get_or, take, get_or-take, length-take-le, slice, slice-cons, length-slice, leb-true}
+use Rattle.model.proofs.Prelude.{ℕ, ◌+◌, ◌*◌, ◌≤◌, ◌<◌, ◌≡◌, sym, ◌∙◌, Bool, true, false, not, cond, List, ◌∷◌, arith, add-one, length, get_or, take, drop, length-drop, drop-cons, get_or-take, length-take-le, eqb, leb-true}
+use Rattle.std.specs.Prelude.{Option, Some, None}
+use Rattle.std.specs.Bool.{then_some}
 use Rattle.model.specs.Lists.{same_list}
 use Rattle.model.specs.Words.{Mem}
 use Rattle.model.specs.State.{inode_of}
-use Rattle.model.proofs.Tests.{ands}
+use Rattle.model.proofs.Tests.{by_bool, ands}
 use Rattle.model.proofs.Lists.{has_get_or, all_has, no_length}
 use Rattle.directory.specs.Fields.{name_at, field_at}
 use Rattle.directory.specs.Places.{standing, place_ok, Filled}
+use Rattle.directory.proofs.Table.{next_ok}
 
 -- The entry at a place p.
 
@@ -32,19 +35,33 @@ module _ (m : Mem) (L c i p : ℕ) (t : List ℕ) (filled : Filled m L c t) (l :
   pub here_field : field_at m (8 * p) ≡ true
   here_field = place_field m L p place_ok_lem
 
-  from : slice i c t ≡ p ∷ slice (i + 1) c t
-  from = rw (e, add-one) (slice-cons i c t 0 l (omega arith))
+-- The loop over the first c places; the code read p, the i-th of them.
+
+module _ (m : Mem) (L c i p : ℕ) (t : List ℕ) (filled : Filled m L c t) (l : i < length (take c t)) (e : p ≡ get_or (take c t) i 0) where
+  pub next_in : 64 * p + 64 ≤ L
+  next_in = place_in m L p (next_ok m L t c filled i p l e)
+
+  pub next_field : field_at m (8 * p) ≡ true
+  next_field = place_field m L p (next_ok m L t c filled i p l e)
+
+  from : drop i (take c t) ≡ p ∷ drop (i + 1) (take c t)
+  from = rw (e, add-one, drop-cons (take c t) i 0)
 
   -- n is the name that is looked up, r what `has_name` answered
-  module _ (n : List ℕ) (r : Bool) (z : ℕ) (a : inode_of (standing m (slice i c t)) n ≡ z) (s : r ≡ same_list (name_at m (8 * p)) n) where
-    pub found : (x : ℕ) → r ≡ true → x ≡ m (8 * p + 1) → x ≡ z
+  module _ (n : List ℕ) (r : Bool) (z : ℕ) (a : inode_of (standing m (drop i (take c t))) n ≡ z) (s : r ≡ same_list (name_at m (8 * p)) n) where
+    pub found : (x : ℕ) (f : Bool) (o : Option ℕ) → r ≡ true → x ≡ m (8 * p + 1) → f ≡ not (eqb x 0) → o ≡ then_some f x → o ≡ cond (eqb z 0) None (Some z)
     unfolding standing inode_of
-    found x y h = h ∙ (rw (from, inode_of, sym s ∙ y) at a)
+    found x f o y h g k =
+        let q : x ≡ z = h ∙ (rw (from, inode_of, sym s ∙ y) at a) in
+        k ∙ rw (g, q) (by_bool (eqb z 0) (λ b. rw b) (λ b. rw b))
 
-    pub find_next : r ≡ false → inode_of (standing m (slice (i + 1) c t)) n ≡ z
+    pub find_next : r ≡ false → inode_of (standing m (drop (i + 1) (take c t))) n ≡ z
     unfolding standing inode_of
     find_next y = rw (from, inode_of, sym s ∙ y) at a
 
-pub find_end : (m : Mem) (L c i : ℕ) (t n : List ℕ) (z : ℕ) → Filled m L c t → c ≤ i → inode_of (standing m (slice i c t)) n ≡ z → 0 ≡ z
+pub find_end : (m : Mem) (t n : List ℕ) (i z : ℕ) → length t ≤ i → inode_of (standing m (drop i t)) n ≡ z
+    → ◌≡◌ {A = Option ℕ} None (cond (eqb z 0) None (Some z))
 unfolding standing inode_of
-find_end m L c i t n z filled l a = rw (no_length (slice i c t) (length-slice i c t (omega arith) ∙ omega arith)) at a
+find_end m t n i z l a =
+    let q : 0 ≡ z = rw (no_length (drop i t) (length-drop i t ∙ omega arith)) at a in
+    rw (← q)

@@ -1,8 +1,8 @@
 -- Marks of pages, one byte each: 0 where a page is not marked. A judge marks the pages that serve, one after the other,
 -- and stops at a page that was marked before. proofs/Counts.antt ties these lists to the model's counts of uses.
-use Rattle.std.specs.Prelude.{ℕ, zero, suc, ◌+◌, ◌≡◌, Bool, true, false, cond, ◌&&◌, List, [], ◌∷◌, ◌++◌, eqb, set, get_or}
+use Rattle.std.specs.Prelude.{ℕ, zero, suc, ◌+◌, ◌≡◌, Bool, true, false, cond, ◌&&◌, List, [], ◌∷◌, ◌++◌, eqb, ltb, set, get_or}
 use Rattle.std.proofs.Math.Option.{Option}
-use Rattle.model.specs.Lists.{is_some, or_else}
+use Rattle.model.specs.Lists.{all, is_some, or_else}
 use Rattle.model.specs.Words.{Mem}
 use Rattle.model.specs.Layout.{in_pages, is_directory, file_pages}
 use Rattle.model.specs.Log.{pages}
@@ -45,6 +45,10 @@ mapped_by f i (suc n) = let r = mapped_by f (i + 1) n in cond (eqb (f i) 0) r (f
 -- the same of a table, which has the data page of file page i at index i
 unfoldable pub mapped : List ℕ → ℕ → ℕ → List ℕ
 mapped t i n = mapped_by (λ j. get_or t j 0) i n
+
+-- whether each of the pages has a mark, of 4,096 marks
+unfoldable pub have_marks : List ℕ → Bool
+have_marks = all (λ p. ltb p 4096)
 
 -- the pages that serve inode k: the list whose counts are `uses_by`
 unfoldable pub used_by : Mem → ℕ → ℕ → ℕ → List ℕ

@@ -1,5 +1,5 @@
--- What reading a folder's names found, x with the table t, as far as the judge asks for it.
-use Rattle.model.proofs.Prelude.{ℕ, ◌≤◌, ◌≡◌, sym, ◌∙◌, true, false, not, ◌&&◌, List, arith, leb, length, lt-ltb, ltb-true, not-false}
+-- What reading a folder's names found, n names with the table t, as far as the judge asks for it.
+use Rattle.model.proofs.Prelude.{ℕ, ◌≤◌, ◌≡◌, refl, sym, ◌∙◌, true, ◌&&◌, List, arith, leb, length, lt-ltb, ltb-true}
 use Rattle.model.specs.Lists.{all}
 use Rattle.model.specs.Words.{Mem}
 use Rattle.model.specs.Layout.{is_directory, most_names}
@@ -12,7 +12,7 @@ use Rattle.model.proofs.Frame.Placed.{named}
 use Rattle.inode_log.specs.Ready.{Ready}
 use Rattle.directory.specs.Places.{Filled}
 use Rattle.directory.specs.Folds.{Folds}
-use Rattle.directory.specs.declared.Named.{Named}
+use Rattle.std.specs.Prelude.{Some}
 use Rattle.names.specs.Inodes.{Readable, below, inodes_from}
 use Rattle.names.proofs.Inodes.{leads_below, inodes_of}
 
@@ -23,34 +23,31 @@ readable m L P N r =
     let c = r.eight in
     record { journal = r.journal; dequeue = r.dequeue; enqueue = r.enqueue; bytes = omega arith; inodes = r.inodes }
 
-module _ (m u : Mem) (L P N d : ℕ) (x : Named) (t : List ℕ)
-    (f : Folds m L (log_ok u P N d && leb (length (names_of u P N d)) most_names) (names_of u P N d) x t) (g : not x.good ≡ false) where
-  is_good : x.good ≡ true
-  is_good = not-false x.good g
-
+module _ (m u : Mem) (L P N d n : ℕ) (t : List ℕ)
+    (f : Folds m L (log_ok u P N d && leb (length (names_of u P N d)) most_names) (names_of u P N d) (Some n) t) where
   pub log_good : log_ok u P N d ≡ true
-  log_good = and_left (log_ok u P N d) (leb (length (names_of u P N d)) most_names) (sym f.good ∙ is_good)
+  log_good = and_left (log_ok u P N d) (leb (length (names_of u P N d)) most_names) (sym f.good)
 
   pub names_few : leb (length (names_of u P N d)) most_names ≡ true
-  names_few = and_right (log_ok u P N d) (leb (length (names_of u P N d)) most_names) (sym f.good ∙ is_good)
+  names_few = and_right (log_ok u P N d) (leb (length (names_of u P N d)) most_names) (sym f.good)
 
-  pub good_filled : Filled m L x.count t
-  good_filled = f.filled is_good
+  pub good_filled : Filled m L n t
+  good_filled = f.filled n refl
 
   -- where the names lead
-  pub names_lead : inodes_from m t 0 x.count ≡ inodes (names_of u P N d)
-  names_lead = rw (← (f.names is_good)) (sym (inodes_of m L x.count t good_filled))
+  pub names_lead : inodes_from m t 0 n ≡ inodes (names_of u P N d)
+  names_lead = rw (← (f.names n refl)) (sym (inodes_of m L n t good_filled))
 
   -- names lead to inodes of the table
   module _ (dir : is_directory u d ≡ true) where
-    pub names_below : all (below N) (inodes_from m t 0 x.count) ≡ true
+    pub names_below : all (below N) (inodes_from m t 0 n) ≡ true
     unfolding log_ok names_of
     names_below =
         let parts = rw dir at log_good in
-        sym (leads_below m L x.count t good_filled N) ∙ rw (f.names is_good) (named N (entries u P N d) (search ands))
+        sym (leads_below m L n t good_filled N) ∙ rw (f.names n refl) (named N (entries u P N d) (search ands))
 
-    pub names_small : N ≤ 256 → all (below 256) (inodes_from m t 0 x.count) ≡ true
+    pub names_small : N ≤ 256 → all (below 256) (inodes_from m t 0 n) ≡ true
     unfolding below
     names_small w =
-        all_imp (below N) (below 256) (inodes_from m t 0 x.count)
+        all_imp (below N) (below 256) (inodes_from m t 0 n)
         (λ k h. let l = ltb-true k N h in lt-ltb k 256 (omega arith)) names_below

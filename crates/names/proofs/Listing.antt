@@ -1,5 +1,5 @@
 -- The names of one folder of an accepted volume, as the table of places has them.
-use Rattle.model.proofs.Prelude.{ℕ, ◌≤◌, ◌<◌, ◌≡◌, refl, sym, ◌∙◌, subst, Bool, true, false, not, ◌&&◌, List, arith, leb, ltb, length, not-true, not-false, ltb-true}
+use Rattle.model.proofs.Prelude.{ℕ, ◌≤◌, ◌<◌, ◌≡◌, refl, sym, ◌∙◌, Bool, true, false, not, ◌&&◌, List, arith, leb, ltb, length, not-true, not-false, ltb-true}
 use Rattle.model.specs.Lists.{all, is_some}
 use Rattle.model.specs.Words.{Mem, word}
 use Rattle.model.specs.Layout.{is_directory, most_names}
@@ -15,7 +15,7 @@ use Rattle.model.proofs.Frame.View.{view_fine, log_ok_lem}
 use Rattle.inode_log.specs.Ready.{Ready}
 use Rattle.directory.specs.Places.{standing}
 use Rattle.directory.specs.Folds.{Folds}
-use Rattle.directory.specs.declared.Named.{Named}
+use Rattle.std.specs.Prelude.{Option, Some, IsSome}
 use Rattle.names.specs.Inodes.{Readable, folder_in}
 use Rattle.names.specs.Listed.{Good, Turned}
 use Rattle.names.specs.declared.FolderNames.{FolderNames}
@@ -121,17 +121,18 @@ module _ (v : List ℕ) (g : Good v) where
         few_names = let i = rw folder_names at ((view_fine u P N (rw (p, q) good_view)).folders d folder_in_lem) in search ands
 
         -- x is what `names_of` answered, and t the table that it left
-        pub the_names : (x : Named) (t : List ℕ)
+        pub some_names : (x : Option ℕ) (t : List ℕ)
             → Folds (word v) (length v) (log_ok (view (word v)) P N d && leb (length (names_of (view (word v)) P N d)) most_names)
             (names_of (view (word v)) P N d) x t
-            → Turned v d (record { folder = d; count = x.count }) t
-        the_names x t a =
-            let y : x.good ≡ true = a.good ∙ rw (folder_log, few_names) in
-            record { folder = refl; lists = record { filled = a.filled y; names = a.names y ∙ sym folder_names ∙ rw (p, q) } }
+            → IsSome x
+        some_names x t a = a.good ∙ rw (folder_log, few_names)
 
--- The table that has the names already; r says of which folder.
-pub turned_there : (v : List ℕ) (d : ℕ) (r : FolderNames) (t : List ℕ) → Turned v r.folder r t → r.folder ≡ d → Turned v d r t
-turned_there v d r t h e = subst (λ x. Turned v x r t) e h
+        pub the_names : (x : Option ℕ) (n : ℕ) (t : List ℕ)
+            → Folds (word v) (length v) (log_ok (view (word v)) P N d && leb (length (names_of (view (word v)) P N d)) most_names)
+            (names_of (view (word v)) P N d) x t
+            → x ≡ Some n → Turned v d (record { folder = d; count = n }) t
+        the_names x n t a e =
+            record { folder = refl; lists = record { filled = a.filled n e; names = a.names n e ∙ sym folder_names ∙ rw (p, q) } }
 
 pub turned_long : (v : List ℕ) (d : ℕ) (r : FolderNames) (t : List ℕ) → Turned v d r t → length t ≡ 224
 turned_long v d r t h = h.lists.filled.long

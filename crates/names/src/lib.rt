@@ -4,7 +4,7 @@
 #![tactic(auto)]
 
 ghost use Rattle.std.specs.Prelude.{◌≡◌, true, not, ◌+◌, ◌-◌, ◌*◌, ◌≤◌, ◌<◌, length};
-ghost use Rattle.model.specs.Lists.{all, lowest, or_else};
+ghost use Rattle.model.specs.Lists.{all, lowest};
 ghost use Rattle.model.specs.Words.{word};
 ghost use Rattle.model.specs.Layout.{is_directory};
 ghost use Rattle.model.specs.Journal.{view};
@@ -12,18 +12,11 @@ ghost use Rattle.model.specs.Accept.{is_valid};
 ghost use Rattle.directory.specs.Places.{Filled};
 ghost use Rattle.tree.specs.Table.{noted_all, may_note};
 ghost use Rattle.names.specs.Inodes.{Readable, below, valid_in, folder_in, inodes_from};
+ghost use Rattle.layout.specs.Options.{to_model};
 ghost use Rattle.names.specs.Listed.{Good, Turned};
 
-use layout::Sizes;
-
-// Answers the inode that the name at place p leads to.
-// Example: where word 2113 is 5, the second word of the entry at word 2112, inode_at(v, 264) is 5.
-pub fn inode_at(v: &[u8], p: usize) -> usize
-    requires { (8 * (8 * p) + 64 ≤ length v.now) × (p < 65536) }
-    ensures { result ≡ word v.now (8 * p + 1) }
-{
-    words::word_at(v, 8 * p + 1) as usize
-}
+use layout::{Kind, Sizes};
+use tree::Tree;
 
 // Answers whether k is one of the inodes, and valid.
 // Example: of a volume just formatted with 8 inodes inode 0 is valid, and inodes 1 and 8 are not.
@@ -31,26 +24,22 @@ pub fn is_valid(v: &[u8], k: usize, inodes: usize) -> bool
     requires { Readable (word v.now) (length v.now) inodes }
     ensures { result ≡ valid_in (view (word v.now)) inodes k }
 {
-    if inodes <= k {
-        return false;
-    }
-    journal::viewed(v, layout::valid_word(k)) == 1
+    k < inodes && journal::viewed(v, layout::valid_word(k)) == 1
 }
 
-// Answers the lowest inode from 1 on that is not valid, and 0 where there is none.
-// Example: of a volume just formatted with 8 inodes free_inode(v, 8) is 1, and 0 once words 72, 80, .. 120 are 1.
-pub fn free_inode(v: &[u8], inodes: u64) -> u64
+// Answers the lowest inode from 1 on that is not valid, and None where there is none.
+// Example: of a volume just formatted with 8 inodes free_inode(v, 8) is Some(1), and None once words 72, 80, .. 120 are 1.
+pub fn free_inode(v: &[u8], inodes: u64) -> Option<u64>
     requires { Readable (word v.now) (length v.now) inodes }
-    ensures { result ≡ or_else (lowest (λ k. not (is_valid (view (word v.now)) k)) (inodes - 1) 1) 0 }
+    ensures { to_model result
+        ≡ lowest (λ k. not (is_valid (view (word v.now)) k)) (inodes - 1) 1 }
 {
-    let mut k: u64 = 1;
-    while k < inodes {
+    for k in 1..inodes {
         if !is_valid(v, k as usize, inodes as usize) {
-            return k;
+            return Some(k);
         }
-        k = k + 1;
     }
-    0
+    None
 }
 
 // Answers whether inode k, if it is valid, is a folder. Inode 0 is one whatever its type word holds.
@@ -59,10 +48,7 @@ pub fn is_directory(v: &[u8], k: usize) -> bool
     requires { Readable (word v.now) (length v.now) (word v.now 1) × (k < word v.now 1) }
     ensures { result ≡ is_directory (view (word v.now)) k }
 {
-    if k == layout::ROOT {
-        return true;
-    }
-    words::word_at(v, layout::type_word(k)) == layout::FOLDER_TYPE
+    k == layout::ROOT || words::word_at(v, layout::type_word(k)) == u64::from(Kind::Folder)
 }
 
 // Answers whether k is one of the inodes, valid, and a folder.
@@ -71,38 +57,24 @@ pub fn is_folder(v: &[u8], k: usize, inodes: usize) -> bool
     requires { Readable (word v.now) (length v.now) inodes × (inodes ≡ word v.now 1) }
     ensures { result ≡ folder_in (view (word v.now)) inodes k }
 {
-    if !is_valid(v, k, inodes) {
-        return false;
-    }
-    is_directory(v, k)
+    is_valid(v, k, inodes) && is_directory(v, k)
 }
 
 // Notes the names of folder d, which stand at the first count places of a table. Answers whether each leads to an inode that may have it: a
 // valid one, and no folder that has a name already.
 // Example: where two names stand, which lead to inodes 5 and 3, and inode 5 is not valid, it is false.
-pub fn note_names(
-    v: &[u8],
-    places: &[u16; 224],
-    count: usize,
-    d: usize,
-    tree: &mut [u16; 256],
-) -> bool
+pub fn note_names(v: &[u8], places: &[u16; 224], count: usize, d: usize, tree: &mut Tree) -> bool
     requires { Filled (word v.now) (length v.now) count places.now × (d < 256)
         × (all (below 256) (inodes_from (word v.now) places.now 0 count) ≡ true) }
     ensures { (result ≡ may_note tree.old d (inodes_from (word v.now) places.now 0 count))
         × (result ≡ true → tree.new
         ≡ noted_all tree.old d (inodes_from (word v.now) places.now 0 count)) }
 {
-    let mut i: usize = 0;
-    let mut left = count;
-    while 0 < left {
-        let p = directory::place(places, i);
-        let k = inode_at(v, p);
-        if !tree::note(tree, k, d) {
+    for p in &places[..count] {
+        let k = directory::inode_at(v, usize::from(*p));
+        if !tree.note(k, d) {
             return false;
         }
-        i = i + 1;
-        left = left - 1;
     }
     true
 }
@@ -127,11 +99,9 @@ pub fn list_names(v: &[u8], d: usize, places: &mut [u16; 224]) -> FolderNames
             count: 0,
         };
     }
-    let named = directory::names_of(v, d, sizes.pages, sizes.inodes, places);
-    FolderNames {
-        folder: d,
-        count: named.count,
-    }
+    // an accepted volume's names are as they should be
+    let count = directory::names_of(v, d, sizes, places).unwrap();
+    FolderNames { folder: d, count }
 }
 
 // Makes a table that holds the names of one folder of an accepted volume hold those of inode d, none where d is no folder, and answers so.

@@ -1,6 +1,8 @@
 -- What the calls by name append to the logs of folders.
 use Rattle.std.specs.Prelude.{ℕ, Bool, false, cond, List, eqb}
 use Rattle.model.specs.FileMap.{Call, create, create_folder}
+use Rattle.layout.specs.declared.Kind.{Kind}
+use Rattle.layout.specs.declared.Kind.TheVariants.{File, Folder}
 use Rattle.append.specs.declared.Append.{Append}
 use Rattle.checks.specs.declared.TwoFolders.{TwoFolders}
 
@@ -18,6 +20,7 @@ move_append d e o =
 unfoldable pub rename_append : TwoFolders → ℕ → Append
 rename_append f o = cond (eqb f.old f.new) (folder_append f.old false o 0 0) (move_append f.old f.new o)
 
--- the call that makes an inode of type t
-unfoldable pub make_call : ℕ → ℕ → List ℕ → Call
-make_call t d n = cond (eqb t 0) (create d n) (create_folder d n)
+-- the call that makes an inode of this kind
+abbrev pub make_call : Kind → ℕ → List ℕ → Call
+make_call File d n = create d n
+make_call Folder d n = create_folder d n

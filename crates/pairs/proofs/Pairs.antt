@@ -1,10 +1,12 @@
--- The cases of the loops over pairs: at an even place of a list of even length the rest is one pair and the rest after it.
-use Rattle.model.proofs.Prelude.{ℕ, suc, ◌+◌, ◌-◌, ◌*◌, ◌/◌, ◌%◌, ◌≤◌, ◌<◌, ◌≡◌, Bool, true, false, not, List, ◌∷◌, arith, add-one, add-two, ltb-true, eq-eqb, ne_eqb, not-true, not-false, eqb, length, get_or, drop, drop_of_length-le, drop-cons}
+-- The cases of the loops over pairs: in a list of even length the rest from pair k on is that pair and the rest after it.
+use Rattle.model.proofs.Prelude.{ℕ, suc, ◌+◌, ◌-◌, ◌*◌, ◌/◌, ◌%◌, ◌≤◌, ◌<◌, ◌≡◌, Bool, true, false, List, [], ◌∷◌, arith, ltb-true, eq-eqb, ne_eqb, eqb, length, get_or, drop, drop_of_length-le, drop-cons}
+use Rattle.std.specs.Simd.{first_chunks}
 use Rattle.model.specs.Words.{put_word}
 use Rattle.model.specs.Stores.{fence, carried}
 use Rattle.model.specs.Public.{pairs_ok, ends_in_fence}
 use Rattle.model.proofs.Tests.{cond_and}
 use Rattle.pairs.specs.Pairs.{pair_ok, pair_stored}
+use Rattle.pairs.proofs.Chunks.{pair_index, pair_value}
 
 -- One pair.
 
@@ -21,59 +23,66 @@ module _ (v : List ℕ) (i x : ℕ) where
   unfolding pair_stored
   word_stored w n e = rw (ne_eqb i fence n) e
 
--- The list l at its place i.
+-- The list l, whose n pairs are ps, at its pair k.
 
-module _ (l : List ℕ) (i : ℕ) where
+module _ (l : List ℕ) (ps : List (List ℕ)) (k : ℕ) (f : ps ≡ first_chunks 2 (length l / 2) l) (m : length ps ≡ length l / 2) where
   abbrev index : ℕ
-  index = get_or l i 0
+  index = get_or (get_or ps k []) 0 0
 
   abbrev value : ℕ
-  value = get_or l (i + 1) 0
+  value = get_or (get_or ps k []) 1 0
 
-  module _ (h : i < length l) (g : i % 2 ≡ 0) (e : length l % 2 ≡ 0) where
-    one_pair : drop i l ≡ index ∷ value ∷ drop (i + 2) l
+  module _ (h : k < length ps) (e : length l % 2 ≡ 0) where
+    one_pair : drop (2 * k) l ≡ index ∷ value ∷ drop (2 * (k + 1)) l
     one_pair =
-        let k : suc i < length l = omega arith in
-        rw (add-one, add-two, drop-cons l i 0 h, drop-cons l (suc i) 0 k)
+        let a : 2 * k < length l = omega arith in
+        let b : 2 * k + 1 < length l = omega arith in
+        let i : 2 * (k + 1) ≡ suc (2 * k + 1) = omega arith in
+        let o : 2 * k + 1 ≡ suc (2 * k) = omega arith in
+        rw (pair_index l ps k f (omega arith), pair_value l ps k f (omega arith), i, drop-cons l (2 * k) 0 a, ← o, drop-cons l (2 * k + 1) 0 b)
 
-    pairs_split : (W : ℕ) → pairs_ok W (drop i l) ≡ true → (pair_ok W index value ≡ true) × (pairs_ok W (drop (i + 2) l) ≡ true)
+    pairs_split : (W : ℕ) → pairs_ok W (drop (2 * k) l) ≡ true → (pair_ok W index value ≡ true) × (pairs_ok W (drop (2 * (k + 1)) l) ≡ true)
     unfolding pairs_ok pair_ok
-    pairs_split W a = cond_and (pair_ok W index value) (pairs_ok W (drop (i + 2) l)) (rw one_pair at a)
+    pairs_split W a = cond_and (pair_ok W index value) (pairs_ok W (drop (2 * (k + 1)) l)) (rw one_pair at a)
 
-    -- f is what `pair_ok` answered
-    module _ (W : ℕ) (z f : Bool) (a : pairs_ok W (drop i l) ≡ z) (r : f ≡ pair_ok W index value) where
-      pub pairs_next : not f ≡ false → pairs_ok W (drop (i + 2) l) ≡ z
+    -- r is what `pair_ok` answered
+    module _ (W : ℕ) (z r : Bool) (a : pairs_ok W (drop (2 * k) l) ≡ z) (g : r ≡ pair_ok W index value) where
+      pub pairs_next : r ≡ true → pairs_ok W (drop (2 * (k + 1)) l) ≡ z
       unfolding pairs_ok pair_ok
-      pairs_next y = rw (one_pair, ← r, not-false f y) at a
+      pairs_next y = rw (one_pair, ← g, y) at a
 
-      pub pairs_not : not f ≡ true → false ≡ z
+      pub pairs_not : r ≡ false → false ≡ z
       unfolding pairs_ok pair_ok
-      pairs_not y = rw (one_pair, ← r, not-true f y) at a
+      pairs_not y = rw (one_pair, ← g, y) at a
 
     -- v₀ and v are the bytes before the loop and before this turn
     module _ (v₀ v : List ℕ) where
-      pub pair_here : pairs_ok (length v₀ / 8) (drop i l) ≡ true → length v ≡ length v₀ → pair_ok (length v / 8) index value ≡ true
+      pub pair_here : pairs_ok (length v₀ / 8) (drop (2 * k) l) ≡ true → length v ≡ length v₀ → pair_ok (length v / 8) index value ≡ true
       pair_here a s = rw s (pairs_split (length v₀ / 8) a).0
 
-      pub pairs_left : pairs_ok (length v₀ / 8) (drop i l) ≡ true → pairs_ok (length v₀ / 8) (drop (i + 2) l) ≡ true
+      pub pairs_left : pairs_ok (length v₀ / 8) (drop (2 * k) l) ≡ true → pairs_ok (length v₀ / 8) (drop (2 * (k + 1)) l) ≡ true
       pairs_left a = (pairs_split (length v₀ / 8) a).1
 
-      pub carried_next : (w z : List ℕ) → carried v (drop i l) ≡ z → w ≡ pair_stored v index value → carried w (drop (i + 2) l) ≡ z
+      pub carried_next : (w z : List ℕ) → carried v (drop (2 * k) l) ≡ z → w ≡ pair_stored v index value → carried w (drop (2 * (k + 1)) l) ≡ z
       unfolding carried pair_stored
       carried_next w z a s = rw s (rw one_pair at a)
 
-  pub pairs_end : (W : ℕ) (z : Bool) → pairs_ok W (drop i l) ≡ z → length l ≤ i → true ≡ z
-  unfolding pairs_ok
-  pairs_end W z a h = rw (drop_of_length-le l h) at a
+  module _ (h : length ps ≤ k) (e : length l % 2 ≡ 0) where
+    none_left : drop (2 * k) l ≡ []
+    none_left = drop_of_length-le l (omega arith)
 
-  pub carried_end : (v z : List ℕ) → carried v (drop i l) ≡ z → length l ≤ i → v ≡ z
-  unfolding carried
-  carried_end v z a h = rw (drop_of_length-le l h) at a
+    pub pairs_end : (W : ℕ) (z : Bool) → pairs_ok W (drop (2 * k) l) ≡ z → true ≡ z
+    unfolding pairs_ok
+    pairs_end W z a = rw none_left at a
+
+    pub carried_end : (v z : List ℕ) → carried v (drop (2 * k) l) ≡ z → v ≡ z
+    unfolding carried
+    carried_end v z a = rw none_left at a
 
 -- The end of a list.
 
 module _ (l : List ℕ) where
-  pub empty_ends : length l ≡ 0 → true ≡ ends_in_fence l
+  pub empty_ends : length l ≡ 0 → eqb (length l) 0 ≡ ends_in_fence l
   unfolding ends_in_fence
   empty_ends e = rw (eq-eqb (length l) 0 e)
 

@@ -15,9 +15,10 @@ fn pair_ok(index: u64, value: u64, words: u64) -> bool
     ensures { result ≡ pair_ok words index value }
 {
     if index == FENCE {
-        return value == 0;
+        value == 0
+    } else {
+        index < words
     }
-    index < words
 }
 
 // Answers whether every pair of a list is a fence or a store into a volume of so many words.
@@ -26,12 +27,11 @@ fn pairs_ok(list: &[u64], words: u64) -> bool
     requires { length list.now % 2 ≡ 0 }
     ensures { result ≡ pairs_ok words list.now }
 {
-    let mut i = 0;
-    while i < list.len() {
-        if !pair_ok(list[i], list[i + 1], words) {
+    let (pairs, _) = list.as_chunks::<2>();
+    for [index, value] in pairs {
+        if !pair_ok(*index, *value, words) {
             return false;
         }
-        i = i + 2;
     }
     true
 }
@@ -43,10 +43,7 @@ fn ends_in_fence(list: &[u64]) -> bool
     ensures { result ≡ ends_in_fence list.now }
 {
     let n = list.len();
-    if n == 0 {
-        return true;
-    }
-    list[n - 2] == FENCE
+    n == 0 || list[n - 2] == FENCE
 }
 
 // Answers whether a list is a store list for a volume of so many words: every pair is a fence or a store into the
@@ -56,10 +53,7 @@ pub fn list_ok(list: &[u64], words: u64) -> bool
     requires { length list.now % 2 ≡ 0 }
     ensures { result ≡ pairs_ok words list.now && ends_in_fence list.now }
 {
-    if !pairs_ok(list, words) {
-        return false;
-    }
-    ends_in_fence(list)
+    pairs_ok(list, words) && ends_in_fence(list)
 }
 
 // Carries out one pair: stores the value in its word, or nothing where the pair is a fence. Answers nothing.
@@ -68,10 +62,9 @@ fn store_pair(v: &mut [u8], index: u64, value: u64)
     requires { pair_ok (length v.old / 8) index value ≡ true }
     ensures { v.new ≡ pair_stored v.old index value }
 {
-    if index == FENCE {
-        return;
+    if index != FENCE {
+        words::put_word(v, index as usize, value);
     }
-    words::put_word(v, index as usize, value);
 }
 
 // Carries out every pair of a list, in list order. Answers nothing.
@@ -80,9 +73,8 @@ pub fn store_pairs(v: &mut [u8], list: &[u64])
     requires { (length list.now % 2 ≡ 0) × (pairs_ok (length v.old / 8) list.now ≡ true) }
     ensures { v.new ≡ carried v.old list.now }
 {
-    let mut i = 0;
-    while i < list.len() {
-        store_pair(v, list[i], list[i + 1]);
-        i = i + 2;
+    let (pairs, _) = list.as_chunks::<2>();
+    for [index, value] in pairs {
+        store_pair(v, *index, *value);
     }
 }

@@ -1,5 +1,6 @@
 -- The calls that read a volume: behind the gate the call's own checks decide, and the gate's tables hold what the rest is read from.
-use Rattle.model.proofs.Prelude.{ℕ, zero, suc, ◌-◌, ◌*◌, min, ◌≤◌, ◌<◌, ◌≡◌, refl, sym, ◌∙◌, ap, Bool, true, false, not, ◌&&◌, ◌||◌, List, [], ◌∷◌, ◌++◌, map, Option, some, arith, lt-ltb, le-ltb, le-leb, lt-leb, leb, length, take, drop, get_or, length-take, get_or-take, length-take-le}
+use Rattle.model.proofs.Prelude.{ℕ, zero, suc, ◌-◌, ◌*◌, min, ◌≤◌, ◌<◌, ◌≡◌, refl, sym, ◌∙◌, ap, Bool, true, false, not, ◌&&◌, ◌||◌, List, [], ◌∷◌, ◌++◌, map, none, some, arith, lt-ltb, le-ltb, le-leb, lt-leb, leb, length, take, drop, get_or, length-take, get_or-take, length-take-le}
+use Rattle.std.specs.Prelude.{Result, Ok, Err, IsErrAnd, ⊤}
 use Rattle.model.specs.Lists.{values_from}
 use Rattle.model.specs.Words.{Mem, word}
 use Rattle.model.specs.Layout.{is_directory}
@@ -20,15 +21,13 @@ use Rattle.lookup.proofs.Places.{place_ok_lem}
 use Rattle.files.specs.State.{file_from}
 use Rattle.inodes.specs.Judged.{unmarked_count}
 use Rattle.inodes.proofs.Once.{free_count_lem}
-use Rattle.answer.specs.Meaning.{meaning, numbered}
-use Rattle.answer.specs.declared.Answer.{Answer}
-use Rattle.answer.specs.declared.Answer.TheVariants.{Number}
+use Rattle.answer.specs.Meaning.{meaning, done_meaning, numbered, plain, number_of}
+use Rattle.answer.specs.declared.Refusal.{Refusal}
+use Rattle.answer.proofs.Checked.{passed_on, refuses_alike, passes_alike, same_refusal, none_refuses}
 use Rattle.names.specs.Listed.{names_in, Turned}
 use Rattle.names.specs.declared.FolderNames.{FolderNames}
 use Rattle.gate.specs.Gated.{Gated}
 use Rattle.gate.proofs.Gates.{gate_refused, gate_passed, gate_pages}
-use Rattle.answer.proofs.Codes.{NoNumber}
-use Rattle.answer.proofs.Checked.{refusal_of_lem, same_refusal, none_refuses}
 use Rattle.checks.proofs.Volumes.{turned_count, turned_filled}
 use Rattle.reading.specs.Folder.{folder_first}
 use Rattle.state.specs.Stated.{Stated}
@@ -53,11 +52,9 @@ module _ (v l : List ℕ) (d k : ℕ) where
   unfolding kth_name_answer kth_name_buffer
   kth_refused n e = (rw (← e), rw (← e))
 
-  kth_told : (r : Answer) → NoNumber r → meaning r ≡ map_answer (λ x. some (length x)) kth
+  kth_told : (e : Refusal) (r : Result ℕ Refusal) → IsErrAnd r (λ d. d ≡ e) → refused (number_of e) ≡ kth
       → (meaning r ≡ numbered (kth_name_answer v d k l)) × (l ≡ kth_name_buffer v d k l)
-  kth_told r o h =
-      let w = refusal_of_lem r kth _ (λ a. (length a, refl)) o h in
-      rw (rw (← w.1) at h) (kth_refused w.0 w.1)
+  kth_told e r p h = rw (passed_on e r p) (kth_refused (number_of e) h)
 
   module _ (x : List ℕ) (e : done x ≡ kth) where
     done_number : (n : ℕ) → n ≡ length x → done (some n) ≡ numbered (kth_name_answer v d k l)
@@ -93,31 +90,21 @@ module _ (v l : List ℕ) (k o : ℕ) where
   abbrev bytes : List ℕ
   bytes = values_from (file_byte (view (word v)) file) o (min (length l) (file.size - o))
 
-  abbrev counted : List ℕ → Option ℕ
-  counted x = some (length x)
+  -- marks and t are what the state of file k left
+  module _ (marks t : List ℕ) where
+    pub read_refused : (e : Refusal) (r : Result ℕ Refusal) → IsErrAnd r (λ d. d ≡ e) → Stated v k (Err e) marks t
+        → (meaning r ≡ numbered (read_answer v k o l)) × (l ≡ read_buffer v k o l)
+    unfolding read_answer read_buffer read size_answer size
+    read_refused e r p a =
+        let h : first_refusal asked (done bytes) ≡ refused (number_of e) = same_refusal (number_of e) asked file.size a.answer (done bytes) in
+        rw (passed_on e r p) (rw h, rw h)
 
-  told : (r : Answer) → NoNumber r → meaning r ≡ map_answer counted (first_refusal asked (done bytes))
-      → (meaning r ≡ numbered (read_answer v k o l)) × (l ≡ read_buffer v k o l)
-  unfolding read_answer read_buffer read
-  told r n h =
-      let w = refusal_of_lem r (first_refusal asked (done bytes)) counted (λ a. (length a, refl)) n h in
-      (rw (← w.1) (rw (← w.1) at h), rw (← w.1))
-
-  -- r, marks and t are what the state of file k was answered and left as
-  module _ (r : Answer) (marks t : List ℕ) (a : Stated v k r marks t) where
-    sized : meaning r ≡ numbered (first_refusal asked (done file.size))
-    unfolding size_answer size
-    sized = a.answer
-
-    pub read_refused : NoNumber r → (meaning r ≡ numbered (read_answer v k o l)) × (l ≡ read_buffer v k o l)
-    read_refused n = told r n (same_refusal r asked file.size sized counted (done bytes) n)
-
-    module _ (s : ℕ) (e : r ≡ Number s) (n : ℕ) (c : n ≡ min (length l) (s - o)) where
+    module _ (s : ℕ) (a : Stated v k (Ok s) marks t) (n : ℕ) (c : n ≡ min (length l) (s - o)) where
       values : read (length v) (word v) k o (length l) ≡ done (values_from (file_byte (word v) (file_from s t)) o n)
-      unfolding read
+      unfolding read size_answer size
       values =
-          let f = a.state s e in
-          rw (none_refuses asked file.size s (rw e at sized) (done bytes), ← f.file, closed_view (word v) f.closed, c)
+          let f = a.state in
+          rw (none_refuses asked file.size s a.answer (done bytes), ← f.file, closed_view (word v) f.closed, c)
 
       pub read_number : done (some n) ≡ numbered (read_answer v k o l)
       unfolding read_answer
@@ -127,31 +114,33 @@ module _ (v l : List ℕ) (k o : ℕ) where
       unfolding read_buffer
       read_laid w h = rw (values, length_values) h
 
--- r, places, marks and tree are what the gate answered of v and left
-module _ (v : List ℕ) (r : Answer) (places marks tree : List ℕ) (g : Gated v (closed_checks (length v) (word v)) r places marks tree) where
-  pub kth_gate : (l : List ℕ) (d k : ℕ) → 32 ≤ length l → NoNumber r
-      → (meaning r ≡ numbered (kth_name_answer v d k l)) × (l ≡ kth_name_buffer v d k l)
-  unfolding kth_name
-  kth_gate l d k h o = kth_told v l d k r o (rw (le-ltb (length l) 32 h) (gate_refused v _ r places marks tree g _ _ _ o))
+-- places, marks and tree are what the gate left
+module _ (v places marks tree : List ℕ) where
+  module _ (e : Refusal) (r : Result ℕ Refusal) (p : IsErrAnd r (λ d. d ≡ e))
+      (g : Gated v (closed_checks (length v) (word v)) (Err e) places marks tree) where
+    pub kth_gate : (l : List ℕ) (d k : ℕ) → 32 ≤ length l
+        → (meaning r ≡ numbered (kth_name_answer v d k l)) × (l ≡ kth_name_buffer v d k l)
+    unfolding kth_name
+    kth_gate l d k h = kth_told v l d k e r p (sym (rw (le-ltb (length l) 32 h) (gate_refused v _ places marks tree e g _ _)))
 
-  pub free_refused : NoNumber r → meaning r ≡ numbered (free_answer v)
-  unfolding free_answer count_free
-  free_refused o =
-      same_refusal r (closed_checks (length v) (word v)) _ g.answer some (done (free_count (view (word v)) (word v 0) (word v 1))) o
+    pub free_refused : meaning r ≡ numbered (free_answer v)
+    unfolding free_answer count_free
+    free_refused =
+        let f = done (free_count (view (word v)) (word v 0) (word v 1)) in
+        rw (passed_on e r p, same_refusal (number_of e) (closed_checks (length v) (word v)) _ g.answer f)
 
-  module _ (n : ℕ) (e : r ≡ Number n) where
+  module _ (n : ℕ) (g : Gated v (closed_checks (length v) (word v)) (Ok n) places marks tree) where
     -- the free pages, counted in the marks
     pub free_is_lem : (P N k : ℕ) → P ≡ word v 0 → N ≡ word v 1 → k ≡ unmarked_count marks P N → done (some k) ≡ numbered (free_answer v)
     unfolding free_answer count_free
     free_is_lem P N k p q c =
         let u : k ≡ unmarked_count marks (word v 0) (word v 1) = rw (← p, ← q) c in
-        let few = gate_pages v _ r places marks tree g n e (word v 0) refl in
-        rw (none_refuses (closed_checks (length v) (word v)) _ n (rw e at g.answer) (done (free_count (view (word v)) (word v 0) (word v 1))))
-        (ap (λ x. done (some x)) (free_count_lem (view (word v)) (word v 0) (word v 1) true marks few (g.tables n e).served refl k u))
+        let few = gate_pages v _ n places marks tree g (word v 0) refl in
+        rw (none_refuses (closed_checks (length v) (word v)) _ n g.answer (done (free_count (view (word v)) (word v 0) (word v 1))))
+        (ap (λ x. done (some x)) (free_count_lem (view (word v)) (word v 0) (word v 1) true marks few g.tables.served refl k u))
 
-    -- the k-th name of folder d, for a buffer l; t is what `folder_checks` answered
-    module _ (l : List ℕ) (d k : ℕ) (h : 32 ≤ length l) (t : Answer)
-        (a : meaning t ≡ numbered (first_refusal (folder_first v d) (done 0))) where
+    -- the k-th name of folder d, for a buffer l
+    module _ (l : List ℕ) (d k : ℕ) (h : 32 ≤ length l) where
       abbrev rest : Model.Answer (List ℕ)
       rest = first_refusal ((leb (length (names_in v d)) k, not_there) ∷ []) (done (get_or (names_in v d) k ([], 0)).0)
 
@@ -159,17 +148,21 @@ module _ (v : List ℕ) (r : Answer) (places marks tree : List ℕ) (g : Gated v
       unfolding kth_name folder_first
       kth_behind =
           rw (le-ltb (length l) 32 h)
-          (gate_passed v _ r places marks tree g n e _ _
+          (gate_passed v _ places marks tree n g _ _
           ∙ folder_first_lem (none_there (view (word v)) (word v 0) (word v 1) d) (is_directory (view (word v)) d)
           (leb (length (names_in v d)) k) _)
 
-      pub kth_asked : NoNumber t → (meaning t ≡ numbered (kth_name_answer v d k l)) × (l ≡ kth_name_buffer v d k l)
-      kth_asked o = kth_told v l d k t o (rw kth_behind (same_refusal t (folder_first v d) 0 a _ rest o))
+      pub kth_asked : (e : Refusal) (r : Result ℕ Refusal) → IsErrAnd r (λ d. d ≡ e)
+          → done_meaning (Err e) ≡ plain (first_refusal (folder_first v d) (done record {}))
+          → (meaning r ≡ numbered (kth_name_answer v d k l)) × (l ≡ kth_name_buffer v d k l)
+      kth_asked e r p a =
+          kth_told v l d k e r p (sym (kth_behind ∙ refuses_alike (λ z. none) (number_of e) (folder_first v d) _ a rest))
 
       -- the table ps was turned to d
-      module _ (i : ℕ) (j : t ≡ Number i) (f : FolderNames) (ps : List ℕ) (w : Turned v d f ps) where
+      module _ (u : ⊤) (a : done_meaning (Ok u) ≡ plain (first_refusal (folder_first v d) (done record {}))) (f : FolderNames) (ps : List ℕ)
+          (w : Turned v d f ps) where
         kth_left : kth_name (length v) (word v) d k (length l) ≡ rest
-        kth_left = kth_behind ∙ none_refuses (folder_first v d) 0 i (rw j at a) rest
+        kth_left = kth_behind ∙ passes_alike (λ z. none) none (folder_first v d) _ a rest
 
         pub kth_absent : f.count ≤ k → refused not_there ≡ kth_name (length v) (word v) d k (length l)
         kth_absent q = rw (kth_left, turned_count v d f ps w, le-leb f.count k q)

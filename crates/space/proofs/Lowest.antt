@@ -1,10 +1,10 @@
 -- The cases of a search for the lowest number below P of which f holds: it is found, is sought further on, or is nowhere.
-use Rattle.model.proofs.Prelude.{ℕ, zero, suc, ◌+◌, ◌-◌, ◌≤◌, ◌<◌, ◌≡◌, Bool, true, false, Option, arith}
-use Rattle.model.specs.Lists.{lowest, or_else}
+use Rattle.model.proofs.Prelude.{ℕ, zero, suc, ◌+◌, ◌-◌, ◌≤◌, ◌<◌, ◌≡◌, Bool, true, false, Option, none, some, arith}
+use Rattle.model.specs.Lists.{lowest}
 
 -- The search from s on finds o, what the whole search finds.
 module _ (f : ℕ → Bool) (P s : ℕ) (o : Option ℕ) (y : lowest f (P - s) s ≡ o) where
-  pub lowest_nowhere : P ≤ s → P ≡ or_else o P
+  pub lowest_nowhere : P ≤ s → none ≡ o
   unfolding lowest
   lowest_nowhere l = let z : P - s ≡ 0 = omega arith in rw (← y, z)
 
@@ -12,7 +12,7 @@ module _ (f : ℕ → Bool) (P s : ℕ) (o : Option ℕ) (y : lowest f (P - s) s
     fuel : P - s ≡ suc (P - (s + 1))
     fuel = omega arith
 
-    pub lowest_found : f s ≡ true → s ≡ or_else o P
+    pub lowest_found : f s ≡ true → some s ≡ o
     unfolding lowest
     lowest_found t = rw (← y, fuel, lowest, t)
 

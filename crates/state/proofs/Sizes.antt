@@ -1,5 +1,5 @@
 -- A file of an accepted volume has a log that is good, so that its state is what the log means.
-use Rattle.model.proofs.Prelude.{ℕ, ◌≤◌, ◌<◌, ◌≡◌, Bool, true, false, not, ◌||◌, le-leb, lt-leb, lt-ltb, le-ltb, eq-eqb, ne_eqb, not-false, leb-false, leb, eqb}
+use Rattle.model.proofs.Prelude.{ℕ, ◌≤◌, ◌<◌, ◌≡◌, Bool, true, false, not, ◌||◌, le-leb, lt-leb, lt-ltb, le-ltb, ne_eqb, not-false, leb-false, leb, eqb}
 use Rattle.model.specs.Words.{Mem}
 use Rattle.model.specs.Log.{entries}
 use Rattle.model.specs.State.{file_of}
@@ -11,9 +11,6 @@ use Rattle.names.specs.Inodes.{below, valid_in}
 
 -- the cases of `no_file`; r is what `is_valid` answered
 module _ (u : Mem) (N k : ℕ) where
-  pub directory_none : k ≡ 0 → true ≡ (leb N k || not (is_valid u k)) || eqb k 0
-  directory_none e = by_bool (leb N k || not (is_valid u k)) (λ h. rw h) (λ h. rw (h, eq-eqb k 0 e))
-
   pub file_none : (r : Bool) → (k ≡ 0 → ⊥) → r ≡ valid_in u N k → not r ≡ (leb N k || not (is_valid u k)) || eqb k 0
   unfolding valid_in below
   file_none r e g =

@@ -1,6 +1,7 @@
 -- For callers: a file of an accepted volume is at most 65,536 bytes long, its data pages lie inside the volume, and its bytes are those of
 -- the volume as it stands, since the journal is closed.
 use Rattle.model.proofs.Prelude.{ℕ, ◌≤◌, ◌<◌, ◌≡◌, ap, true, List, arith, length}
+use Rattle.std.specs.Prelude.{Ok}
 use Rattle.model.specs.Words.{word}
 use Rattle.model.specs.Journal.{view}
 use Rattle.model.specs.State.{File}
@@ -11,8 +12,6 @@ use Rattle.model.proofs.Crash.Landing.{volume_parts, sizes_parts}
 use Rattle.contents.specs.Laid.{Within}
 use Rattle.contents.proofs.Pages.{placed_within}
 use Rattle.names.proofs.Listing.{good_view}
-use Rattle.answer.specs.declared.Answer.{Answer}
-use Rattle.answer.specs.declared.Answer.TheVariants.{Number}
 use Rattle.state.specs.Stated.{FileState, Stated}
 use Rattle.state.proofs.Sizes.{good_small}
 
@@ -35,10 +34,10 @@ module _ (v : List ℕ) (k s : ℕ) (marks t : List ℕ) (f : FileState v k s ma
       placed_within (word v 0) (word v 1) s (length v) t _ (file_placed (view (word v)) (word v 0) (word v 1) k file_good f.kind)
       f.file (omega arith) p.bytes
 
--- the same of what was answered, r, where it is a number
-module _ (v : List ℕ) (k : ℕ) (r : Answer) (marks t : List ℕ) (a : Stated v k r marks t) (s : ℕ) (e : r ≡ Number s) where
+-- the same of what was answered, where it is a number
+module _ (v : List ℕ) (k s : ℕ) (marks t : List ℕ) (a : Stated v k (Ok s) marks t) where
   pub state_small : s ≤ 65536
-  state_small = file_small v k s marks t (a.state s e)
+  state_small = file_small v k s marks t a.state
 
   pub state_within : Within (length v) t
-  state_within = file_within v k s marks t (a.state s e)
+  state_within = file_within v k s marks t a.state

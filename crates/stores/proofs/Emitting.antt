@@ -1,10 +1,6 @@
 -- Laws of words put into a list one after the other: two runs are one run, and what is left to put gives what there was to put.
-use Rattle.model.proofs.Prelude.{ℕ, suc, ◌+◌, ◌≤◌, ◌≡◌, refl, sym, ap, ◌∙◌, List, [], ◌∷◌, ◌++◌, arith, add-zero, add-one, length, set, take, drop, length-append, sets, length-sets, sets-eq}
+use Rattle.model.proofs.Prelude.{ℕ, suc, ◌+◌, ◌≤◌, ◌≡◌, refl, sym, ap, ◌∙◌, List, [], ◌∷◌, ◌++◌, arith, add-zero, length, set, take, drop, length-append, sets, length-sets, sets-eq}
 use Rattle.stores.specs.Emitted.{Emitted}
-
--- two stores, as the code makes them
-pub two_put : (l : List ℕ) (at x y : ℕ) → Emitted l at (x ∷ y ∷ []) (at + 1 + 1) (set (set l at x) (at + 1) y)
-two_put l at x y = record { end = omega arith; list = rw add-one }
 
 pub sets_append : (xs ys l : List ℕ) (i : ℕ) → sets l i (xs ++ ys) ≡ sets (sets l i xs) (i + length xs) ys
 sets_append [] ys l i = rw add-zero

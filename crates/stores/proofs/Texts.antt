@@ -1,5 +1,5 @@
 -- Laws of lists that words are put into, and of the pairs of a group's text.
-use Rattle.model.proofs.Prelude.{ℕ, zero, suc, ◌+◌, ◌*◌, ◌-◌, ◌≤◌, ◌<◌, ◌≡◌, refl, sym, ap, ◌∙◌, false, ◌&&◌, List, [], ◌∷◌, ◌++◌, append_assoc, Option, none, some, arith, add-zero, zero-add, ltb, eqb, length, length-append, get_or, set, take, drop, get_or-append, sets, sets-eq, set_comm, set-set, get_or-set_other, get_or-append-add, length-take-le, lt-ltb, le-ltb}
+use Rattle.model.proofs.Prelude.{ℕ, zero, suc, ◌+◌, ◌*◌, ◌-◌, ◌≤◌, ◌<◌, ◌≡◌, refl, sym, ap, ◌∙◌, List, [], ◌∷◌, ◌++◌, append_assoc, Option, none, some, arith, add-zero, zero-add, length, length-append, get_or, set, take, drop, get_or-append, sets, sets-eq, set_comm, set-set, get_or-set_other, get_or-append-add, length-take-le, lt-ltb, le-ltb}
 use Rattle.model.specs.Lists.{values_from}
 use Rattle.model.specs.Stores.{Stores, pair_of, listed}
 use Rattle.model.proofs.Tests.{by_eq}
@@ -125,7 +125,7 @@ place_is l from i (suc n) c h f g =
     (λ e. rw (le-ltb (get_or l (from + 2 * n) 0) i (g n (omega arith) (omega arith))) (place_is l from i n c (omega arith) f (λ k p q. g k p (omega arith))))
 
 module _ (l : List ℕ) (from i : ℕ) where
-  pub place_here : (k x r : ℕ) → 0 < k → x ≡ get_or l (from + 2 * (k - 1)) 0 → x < i → place_of l from k i ≡ r → k ≡ r
+  pub place_here : (k x r : ℕ) → 0 < k → x ≡ get_or l (from + 2 * (k - 1)) 0 → x < i → place_of l from k i ≡ r → k - 1 + 1 ≡ r
   unfolding place_of
   place_here zero x r h e g q = absurd (omega arith)
   place_here (suc k) x r h e g q =
@@ -141,27 +141,16 @@ module _ (l : List ℕ) (from i : ℕ) where
       let y : i ≤ get_or l (from + 2 * k) 0 = rw (← f, ← e) g in
       rw f (rw (le-ltb (get_or l (from + 2 * k) 0) i y) at q)
 
-  pub place_end : (k r : ℕ) → k ≤ 0 → place_of l from k i ≡ r → k ≡ r
+  pub place_end : (k r : ℕ) → k ≤ 0 → place_of l from k i ≡ r → 0 ≡ r
   unfolding place_of
   place_end zero r h q = q
   place_end (suc k) r h q = absurd (omega arith)
-
--- `has_word`.
-
-pub has_none : (l : List ℕ) (at end i : ℕ) → end ≤ at → false ≡ ltb at end && eqb (get_or l at 0) i
-has_none l at end i h = rw (le-ltb at end h)
-
-pub has_there : (l : List ℕ) (at end i x : ℕ) → at < end → x ≡ get_or l at 0 → eqb x i ≡ ltb at end && eqb (get_or l at 0) i
-has_there l at end i x h e = rw (lt-ltb at end h, e)
 
 -- `move_up`: of n pairs at index `at` of the list l, which are to stand from index `to` on, the first `left` are still to move; the list
 -- is m by now.
 pub record Moving (l : List ℕ) (at n to : ℕ) (m : List ℕ) (left : ℕ) : Type 0 where
   pub long : length m ≡ length l
   pub list : sets m to (part m at (2 * left)) ≡ sets l to (part l at (2 * n))
-
-pub move_start : (l : List ℕ) (at n to : ℕ) → Moving l at n to l n
-move_start l at n to = record { long = refl; list = refl }
 
 module _ (l : List ℕ) (at n to : ℕ) (m : List ℕ) (left : ℕ) (q : Moving l at n to m left) where
   pub move_turn : (x y b : ℕ) (p : List ℕ) → 0 < left → at ≤ to → x ≡ get_or m (at + 2 * (left - 1)) 0 → y ≡ get_or m (at + 2 * (left - 1) + 1) 0

@@ -1,5 +1,5 @@
 -- The cases of carry out: each test of the code is one of the definition's, since a volume of P pages has 64 P words.
-use Rattle.model.proofs.Prelude.{ℕ, ◌*◌, ◌/◌, ◌%◌, ◌≤◌, ◌<◌, ◌≡◌, refl, sym, ◌∙◌, Bool, true, false, not, ◌&&◌, List, [], ◌∷◌, none, arith, lt-ltb, le-ltb, eq-eqb, ne_eqb, not-true, not-false, length, take, length-take-le}
+use Rattle.model.proofs.Prelude.{ℕ, ◌*◌, ◌/◌, ◌%◌, ◌≤◌, ◌<◌, ◌≡◌, refl, sym, ◌∙◌, Bool, true, false, not, ◌&&◌, List, [], ◌∷◌, none, arith, lt-ltb, le-ltb, eq-eqb, ne_eqb, not-true, not-false, length, take}
 use Rattle.model.specs.Words.{word}
 use Rattle.model.specs.Stores.{carried}
 use Rattle.model.specs.Answer.{refused, done, first_refusal, no_volume, bad_list}
@@ -8,16 +8,7 @@ use Rattle.model.proofs.Tests.{by_bool, and_left, and_right}
 use Rattle.model.proofs.Crash.Landing.{volume_parts}
 use Rattle.answer.specs.Meaning.{plain}
 
--- The part of a list that is looked at: its first n words.
-
-module _ (l : List ℕ) (n : ℕ) where
-  pub part_length : n ≤ length l → n ≡ length (take n l)
-  part_length s = sym (length-take-le n l s)
-
-  pub part_even : n ≤ length l → n % 2 ≡ 0 → length (take n l) % 2 ≡ 0
-  part_even s e = rw (length-take-le n l s) e
-
--- The tests of that part, for the bytes v.
+-- The tests of the part of a list that is looked at, its first n words, for the bytes v.
 
 abbrev good_pairs : List ℕ → List ℕ → ℕ → Bool
 good_pairs v l n = pairs_ok (length v / 8) (take n l)
@@ -26,7 +17,8 @@ abbrev fenced : List ℕ → ℕ → Bool
 fenced l n = ends_in_fence (take n l)
 
 -- g is what `list_ok` answered; w are the bytes v, lent once more
-pub good_pairs_lem : (v w l : List ℕ) (n : ℕ) (g : Bool) → g ≡ good_pairs v l n && fenced l n → not g ≡ false → w ≡ v → good_pairs w l n ≡ true
+pub good_pairs_lem : (v w l : List ℕ) (n : ℕ) (g : Bool) → g ≡ good_pairs v l n && fenced l n → not g ≡ false → w ≡ v
+    → good_pairs w l n ≡ true
 good_pairs_lem v w l n g p y e = rw e (and_left (good_pairs v l n) (fenced l n) (sym p ∙ not-false g y))
 
 module _ (v l : List ℕ) (n : ℕ) where
@@ -64,7 +56,8 @@ module _ (v l : List ℕ) (n : ℕ) where
           word_count : 64 * word v 0 ≡ length v / 8
           word_count = let p = (volume_parts (length v) (word v) is).bytes in omega arith
 
-          tests_left : carry_out v l n ≡ first_refusal ((not (good_pairs v l n), bad_list) ∷ (not (fenced l n), bad_list) ∷ []) (done (carried v (take n l)))
+          tests_left : carry_out v l n
+              ≡ first_refusal ((not (good_pairs v l n), bad_list) ∷ (not (fenced l n), bad_list) ∷ []) (done (carried v (take n l)))
           unfolding carry_out list_checks
           tests_left = rw (is, eq-eqb (n % 2) 0 e, le-ltb (length l) n s, word_count)
 

@@ -1,5 +1,5 @@
--- The cases of format: after i turns of its loop the first i bytes are zeros; what its sizes are decides the answer.
-use Rattle.model.proofs.Prelude.{ℕ, zero, suc, ◌+◌, ◌*◌, ◌/◌, ◌≤◌, ◌<◌, ◌≡◌, refl, sym, ◌∙◌, Bool, true, false, not, ◌&&◌, List, ◌∷◌, ◌++◌, none, arith, add-one, eqb-true, not-true, not-false, eqb, length, get_or, set, drop, replicate, length-replicate, drop-cons, set_at}
+-- The cases of format: what its sizes are decides the answer, and with good sizes the zeros and the header lie in the volume.
+use Rattle.model.proofs.Prelude.{ℕ, ◌+◌, ◌*◌, ◌/◌, ◌≤◌, ◌≡◌, sym, ◌∙◌, Bool, true, false, not, ◌&&◌, List, ◌++◌, none, arith, eqb-true, not-true, not-false, eqb, length, drop, replicate, take, length-take-le}
 use Rattle.model.specs.Words.{put_word}
 use Rattle.model.specs.Layout.{sizes_ok}
 use Rattle.model.specs.Answer.{refused, done, no_volume}
@@ -7,23 +7,6 @@ use Rattle.model.specs.Public.{formatted, format, format_answer, format_volume}
 use Rattle.model.proofs.Tests.{and_left, and_right}
 use Rattle.model.proofs.Crash.Landing.{Sizes, sizes_parts}
 use Rattle.answer.specs.Meaning.{plain}
-
--- The loop of `zero`.
-
--- a zero before n zeros, or after them
-one_more : (n : ℕ) (l : List ℕ) → replicate n 0 ++ 0 ∷ l ≡ 0 ∷ replicate n 0 ++ l
-one_more zero l = refl
-one_more (suc n) l = rw (one_more n l)
-
-module _ (v₀ v : List ℕ) (n i : ℕ) (e : v ≡ replicate i 0 ++ drop i v₀) where
-  pub zero_turn : i < n → n ≤ length v₀ → set v i 0 ≡ replicate (i + 1) 0 ++ drop (i + 1) v₀
-  zero_turn l h =
-      let g : i < length v₀ = omega arith in
-      rw (e, add-one, drop-cons v₀ i 0 g)
-      (set_at (replicate i 0) (get_or v₀ i 0) (drop (suc i) v₀) 0 i (length-replicate i 0) ∙ one_more i (drop (suc i) v₀))
-
-  pub zero_end : i ≤ n → n ≤ i → v ≡ replicate n 0 ++ drop n v₀
-  zero_end l h = let q : i ≡ n = omega arith in rw (← q) e
 
 -- What `sizes_fit` answered, f, decides.
 
@@ -58,6 +41,10 @@ module _ (v : List ℕ) (P N : ℕ) (f : Bool) (g : f ≡ sizes_ok P N && eqb (l
     pub table_in : (t : ℕ) → t ≡ 512 * (N / 8 + 1) → t ≤ length v
     table_in t e = omega (arith, whole, sizes.room)
 
+    -- the bytes up to t, as they are lent to be filled
+    pub table_part : (t : ℕ) → t ≡ 512 * (N / 8 + 1) → t ≡ length (take t v)
+    table_part t e = sym (length-take-le t v (table_in t e))
+
     pub header_in : (w : List ℕ) → length w ≡ length v → 520 ≤ length w
     header_in w e = omega (arith, whole, sizes.room, sizes.some_inodes)
 
@@ -69,7 +56,10 @@ module _ (v : List ℕ) (P N : ℕ) (f : Bool) (g : f ≡ sizes_ok P N && eqb (l
     unfolding format_answer
     done_answer = rw (← format_is)
 
-    pub done_volume : (t : ℕ) (w z : List ℕ) → t ≡ 512 * (N / 8 + 1) → w ≡ replicate t 0 ++ drop t v
-        → z ≡ put_word (put_word (put_word (put_word w 0 P) 1 N) 2 1) 64 1 → z ≡ format_volume v P N
+    -- bs is what these bytes became
+    pub done_volume : (t : ℕ) (bs z : List ℕ) → t ≡ 512 * (N / 8 + 1) → bs ≡ replicate (length (take t v)) 0
+        → z ≡ put_word (put_word (put_word (put_word (bs ++ drop t v) 0 P) 1 N) 2 1) 64 1 → z ≡ format_volume v P N
     unfolding format_volume formatted
-    done_volume t w z k e d = rw (← format_is, ← k, ← e) d
+    done_volume t bs z k e d =
+        let w : bs ≡ replicate t 0 = rw (length-take-le t v (table_in t k)) at e in
+        rw (← format_is, ← k, ← w) d

@@ -5,9 +5,9 @@
 ghost use Rattle.std.specs.Prelude.{◌≡◌, ◌++◌, ◌+◌, ◌*◌, ◌/◌, ◌≤◌, length, drop, replicate};
 ghost use Rattle.model.specs.Words.{put_word};
 ghost use Rattle.model.specs.Public.{format_answer, format_volume, carry_answer, carry_volume};
-ghost use Rattle.answer.specs.Meaning.{meaning, plain};
+ghost use Rattle.answer.specs.Meaning.{done_meaning, plain};
 
-use answer::Answer;
+use answer::Refusal;
 
 // Answers the first byte after page 0 and the inode table.
 // Example: table_end(8) is 1024 and table_end(256) is 16896.
@@ -17,19 +17,6 @@ fn table_end(inodes: u64) -> usize
 {
     let table = inodes as usize / 8;
     layout::PAGE * (table + 1)
-}
-
-// Zeroes the first n bytes and leaves the others. Answers nothing.
-// Example: of the bytes 7, 7, 7 zero(v, 2) makes 0, 0, 7.
-fn zero(v: &mut [u8], n: usize)
-    requires { n ≤ length v.old }
-    ensures { v.new ≡ replicate n 0 ++ drop n v.old }
-{
-    let mut i = 0;
-    while i < n {
-        v[i] = 0;
-        i = i + 1;
-    }
 }
 
 // Stores the words of a new volume that are not 0: the two sizes, the 1 in word 2, and the 1 in word 64, by which
@@ -46,45 +33,47 @@ fn put_header(v: &mut [u8], pages: u64, inodes: u64)
 }
 
 // Makes v a new volume with so many pages and inodes, an empty directory and no files: zeroes page 0 and the inode
-// table, stores the header and leaves the other pages. Answers Done, or NoVolume where a volume may not have these
-// sizes or v has not that many pages; v is then left as it was.
-// Example: of 8,192 bytes format(v, 16, 8) is Done and zeroes bytes 0 to 1,023 but for words 0, 1, 2 and 64;
-// format(v, 17, 8) is NoVolume.
-pub fn format(v: &mut [u8], pages: u64, inodes: u64) -> Answer
-    ensures answer { meaning result ≡ plain (format_answer v.old pages inodes) }
+// table, stores the header and leaves the other pages. Refuses by NoVolume where a volume may not have these sizes
+// or v has not that many pages; v is then left as it was.
+// Example: of 8,192 bytes format(v, 16, 8) is Ok(()) and zeroes bytes 0 to 1,023 but for words 0, 1, 2 and 64;
+// format(v, 17, 8) is Err(Refusal::NoVolume).
+pub fn format(v: &mut [u8], pages: u64, inodes: u64) -> Result<(), Refusal>
+    ensures answer { done_meaning result ≡ plain (format_answer v.old pages inodes) }
     ensures bytes { v.new ≡ format_volume v.old pages inodes }
 {
     if !header::sizes_fit(v.len(), pages, inodes) {
-        return Answer::NoVolume;
+        return Err(Refusal::NoVolume);
     }
-    zero(v, table_end(inodes));
+    let table = table_end(inodes);
+    v[..table].fill(0);
     put_header(v, pages, inodes);
-    Answer::Done
+    Ok(())
 }
 
-// Carries out the first count words of a list as a store list: judges them all, and then stores in list order. Answers
-// Done; NoVolume where v is no volume; BadList where count is odd or over the list's length, a pair is neither a store
-// into the volume nor a fence, or the last pair is no fence. v is then left as it was.
-// Example: with the list 66, 1088, FENCE, 0 carry_out(v, list, 4) is Done and makes word 66 1088;
-// carry_out(v, list, 2), carry_out(v, list, 3) and carry_out(v, list, 6) are BadList; carry_out(v, list, 0) is Done.
-pub fn carry_out(v: &mut [u8], list: &[u64], count: u64) -> Answer
-    ensures answer { meaning result ≡ plain (carry_answer v.old list.now count) }
+// Carries out the first count words of a list as a store list: judges them all, and then stores in list order. Refuses
+// by NoVolume where v is no volume, and by BadList where count is odd or over the list's length, a pair is neither a
+// store into the volume nor a fence, or the last pair is no fence. v is then left as it was.
+// Example: with the list 66, 1088, FENCE, 0 carry_out(v, list, 4) is Ok(()) and makes word 66 1088;
+// carry_out(v, list, 2), carry_out(v, list, 3) and carry_out(v, list, 6) are Err(Refusal::BadList), and
+// carry_out(v, list, 0) is Ok(()).
+pub fn carry_out(v: &mut [u8], list: &[u64], count: u64) -> Result<(), Refusal>
+    ensures answer { done_meaning result ≡ plain (carry_answer v.old list.now count) }
     ensures bytes { v.new ≡ carry_volume v.old list.now count }
 {
     if !header::is_volume(v) {
-        return Answer::NoVolume;
+        return Err(Refusal::NoVolume);
     }
     if count % 2 != 0 {
-        return Answer::BadList;
+        return Err(Refusal::BadList);
     }
     if (list.len() as u64) < count {
-        return Answer::BadList;
+        return Err(Refusal::BadList);
     }
     let n = count as usize;
     let part = &list[..n];
     if !pairs::list_ok(part, v.len() as u64 / 8) {
-        return Answer::BadList;
+        return Err(Refusal::BadList);
     }
     pairs::store_pairs(v, part);
-    Answer::Done
+    Ok(())
 }

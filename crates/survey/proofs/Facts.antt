@@ -1,5 +1,8 @@
 -- An accepted volume, judged in the code's order: the journal, every inode and every page, every folder, then the tree.
 use Rattle.model.proofs.Prelude.{ℕ, ◌≤◌, ◌<◌, ◌≡◌, refl, sym, ◌∙◌, Bool, true, false, not, List, arith, length, not-true, not-false}
+use Rattle.std.specs.Prelude.{Option, Some, None}
+use Rattle.std.specs.Bool.{then_some}
+use Rattle.std.proofs.lemmas.Option.{none-some, same_Some}
 use Rattle.model.specs.Lists.{all, all_below}
 use Rattle.model.specs.Words.{Mem, word}
 use Rattle.model.specs.Layout.{root}
@@ -9,27 +12,24 @@ use Rattle.model.specs.Public.{is_volume}
 use Rattle.model.proofs.Tests.{by_bool, no, clash, not_true_false, ands}
 use Rattle.model.proofs.Lists.{all_below_at, all_below_by}
 use Rattle.inode_log.specs.Ready.{Ready}
-use Rattle.directory.specs.declared.Named.{Named}
 use Rattle.tree.specs.Table.{Unsettled, SettlesAll}
 use Rattle.names.proofs.Listing.{volume_sizes, few_inodes, some_inodes, journal_ready}
 use Rattle.inodes.specs.Judged.{shape_ok, Served, Inspected}
 use Rattle.inodes.proofs.Once.{shape_ok_lem, all_judged, served}
-use Rattle.survey.specs.Folders.{Walks, TreeFrom, Shaped, FoldersJudged}
+use Rattle.survey.specs.Folders.{Walks, Shaped, FoldersJudged}
 use Rattle.survey.specs.Surveyed.{Surveyed}
-use Rattle.survey.specs.declared.Found.{Found}
 use Rattle.survey.proofs.Noted.{no_folder, noted_start}
 use Rattle.survey.proofs.Settled.{unsettled, settled_not, settled_named, settled_table}
 use Rattle.survey.proofs.Folders.{walk_long, root_folder}
 
--- r is an answer that the volume is not accepted
-refused : (v : List ℕ) (r : Found) (t b c : List ℕ) → r.accepted ≡ false → accepted (word v) (word v 0) (word v 1) ≡ false
-    → Surveyed v r t b c
-refused v r t b c e a =
+-- the answer that the volume is not accepted
+refused : (v t b c : List ℕ) → accepted (word v) (word v 0) (word v 1) ≡ false → Surveyed v None t b c
+refused v t b c a =
     record {
-      answer = e ∙ sym a;
-      lists = λ y. clash r.accepted y e;
-      served = λ y. clash r.accepted y e;
-      settled = λ y. clash r.accepted y e;
+      answer = sym a;
+      lists = λ n e. absurd (none-some n e);
+      served = λ n e. absurd (none-some n e);
+      settled = λ n e. absurd (none-some n e);
     }
 
 -- v is a volume, and the code read its sizes P and N; j is what `journal_ok` answered
@@ -76,21 +76,15 @@ module _ (v : List ℕ) (P N : ℕ) (is_volume_lem : is_volume (length v) (word 
 
 -- What `judge_shapes` answered of v, r, with the marks b and the tree c.
 module _ (v : List ℕ) (r : Bool) (b c : List ℕ) (i : Shaped v r b c) where
-  pub no_shapes : (y : Found) (t d : List ℕ) → not r ≡ true → y.accepted ≡ false → Surveyed v y t b d
-  no_shapes y t d h e = refused v y t b d e (i.bad (not-true r h))
-
   module _ (h : not r ≡ false) where
     pub walks : Walks v
     walks = i.walks (not-false r h)
-
-    pub tree_start : TreeFrom v 0 (word v 1) c
-    tree_start = i.start (not-false r h)
 
     pub walks_long : 16 ≤ length v
     walks_long = walk_long v walks
 
     -- What `judge_folders` answered, x, with the table t and the tree d; the code read the inode count N.
-    module _ (x : Named) (t d : List ℕ) (f : FoldersJudged v x t d) where
+    module _ (x : Option ℕ) (t d : List ℕ) (f : FoldersJudged v x t d) where
       abbrev u : Mem
       u = view (word v)
 
@@ -103,22 +97,19 @@ module _ (v : List ℕ) (r : Bool) (b c : List ℕ) (i : Shaped v r b c) where
       pos : 0 < word v 1
       pos = some_inodes v (word v 0) (word v 1) walks.volume refl refl
 
-      no_view : (y : Found) (k : List ℕ) → view_ok u (word v 0) (word v 1) ≡ false → y.accepted ≡ false → Surveyed v y t b k
+      no_view : (k : List ℕ) → view_ok u (word v 0) (word v 1) ≡ false → Surveyed v None t b k
       unfolding accepted
-      no_view y k z e = refused v y t b k e (rw (walks.journal, z))
+      no_view k z = refused v t b k (rw (walks.journal, z))
 
-      pub no_folders : (y : Found) → not x.good ≡ true → y.accepted ≡ false → Surveyed v y t b d
-      no_folders y n e = no_view y d (f.bad (not-true x.good n)) e
+      pub no_folders : (y : Option ℕ) → x ≡ None → y ≡ None → Surveyed v y t b d
+      no_folders y n e = rw e (no_view d (f.bad n))
 
-      module _ (N : ℕ) (inodes : N ≡ word v 1) (n : not x.good ≡ false) where
-        yes : x.good ≡ true
-        yes = not-false x.good n
-
+      module _ (N : ℕ) (inodes : N ≡ word v 1) (m : ℕ) (n : x ≡ Some m) where
         logs : (k : ℕ) → k < word v 1 → is_folder u k ≡ true → log_ok u (word v 0) (word v 1) k ≡ true
-        logs k l z = (f.good yes k l (omega arith) z).log
+        logs k l z = (f.good m n k l (omega arith) z).log
 
         pub tree_asks : Unsettled N d
-        tree_asks = rw inodes (unsettled u (word v 0) (word v 1) few pos d (f.noted yes) logs)
+        tree_asks = rw inodes (unsettled u (word v 0) (word v 1) few pos d (f.noted m n) logs)
 
         pub tree_few : N ≤ 256
         tree_few = rw inodes few
@@ -141,7 +132,7 @@ module _ (v : List ℕ) (r : Bool) (b c : List ℕ) (i : Shaped v r b c) where
           unfolding folder_ok all
           all_short =
               all_below_by (word v 1) (λ e. folder_ok u (folders_of u (word v 0) (word v 1) e))
-              (λ e l. by_bool (is_folder u e) (λ z. (f.good yes e l (omega arith) z).names)
+              (λ e l. by_bool (is_folder u e) (λ z. (f.good m n e l (omega arith) z).names)
               (λ z. rw (no_folder u (word v 0) (word v 1) few pos e z)))
 
           all_served : Served u (word v 0) (word v 1) true b
@@ -158,20 +149,20 @@ module _ (v : List ℕ) (r : Bool) (b c : List ℕ) (i : Shaped v r b c) where
                 all_short,
                 all_once,
                 all_below_by (word v 1) (named_ok u (word v 1) (folders_of u (word v 0) (word v 1)))
-                    (settled_named u (word v 0) (word v 1) few pos d (f.noted yes) logs a k settles y),
+                    (settled_named u (word v 0) (word v 1) few pos d (f.noted m n) logs a k settles y),
               )
 
-          pub found : Surveyed v (record { accepted = a; names = x.count }) t b k
+          pub found : (y : Option ℕ) → y ≡ then_some a m → Surveyed v y t b k
           unfolding accepted
-          found =
+          found y e =
               by_bool a
-              (λ y.
+              (λ g.
               let w = root_folder v walks in
               let z : is_valid u root ≡ true = search ands in
-              record {
-                answer = rw (walks.journal, accepted_after y) y;
-                lists = λ _. f.lists yes;
-                served = λ _. all_served;
-                settled = λ _. settled_table u (word v 0) (word v 1) few pos d (f.noted yes) logs a k settles y z;
-              })
-              (λ y. no_view _ k (settled_not u (word v 0) (word v 1) few pos d (f.noted yes) logs a k settles y) y)
+              rw (e, g) (record {
+                answer = sym (rw (walks.journal, accepted_after g));
+                lists = λ j q. rw (← (same_Some m j q)) (f.lists m n);
+                served = λ _ _. all_served;
+                settled = λ _ _. settled_table u (word v 0) (word v 1) few pos d (f.noted m n) logs a k settles g z;
+              }))
+              (λ g. rw (e, g) (no_view k (settled_not u (word v 0) (word v 1) few pos d (f.noted m n) logs a k settles g)))

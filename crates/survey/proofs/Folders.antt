@@ -1,5 +1,8 @@
 -- The cases of the functions that judge folders. v is a volume of which the inodes were judged.
-use Rattle.model.proofs.Prelude.{ℕ, suc, ◌+◌, ◌-◌, ◌*◌, ◌^◌, ◌≤◌, ◌<◌, ◌≡◌, refl, sym, ◌∙◌, subst, Bool, true, false, not, ◌&&◌, List, [], arith, length, leb, not-true, not-false, leb-true, leb-false}
+use Rattle.model.proofs.Prelude.{ℕ, suc, ◌+◌, ◌-◌, ◌*◌, ◌^◌, ◌≤◌, ◌<◌, ◌≡◌, refl, sym, ◌∙◌, subst, Bool, true, false, ◌&&◌, List, [], arith, length, leb, leb-true, leb-false}
+use Rattle.std.specs.Prelude.{Option, Some, None}
+use Rattle.std.specs.Bool.{then_some}
+use Rattle.std.proofs.lemmas.Option.{none-some, same_Some}
 use Rattle.model.specs.Lists.{all, foldl, is_some}
 use Rattle.model.specs.Words.{Mem, word}
 use Rattle.model.specs.Layout.{root, tail_word, is_directory, most_names}
@@ -14,7 +17,6 @@ use Rattle.model.proofs.Frame.View.{view_fine, log_ok_lem}
 use Rattle.inode_log.specs.Ready.{Ready}
 use Rattle.directory.specs.Places.{standing, Filled}
 use Rattle.directory.specs.Folds.{Folds}
-use Rattle.directory.specs.declared.Named.{Named}
 use Rattle.tree.specs.Table.{state_in, noted_all, may_note}
 use Rattle.names.specs.Inodes.{Readable, below, inodes_from}
 use Rattle.names.specs.Listed.{names_in, Lists}
@@ -24,7 +26,7 @@ use Rattle.inodes.specs.Judged.{shape_ok}
 use Rattle.survey.specs.Folders.{Walks, TreeFrom, FolderJudged, FoldersGood, FoldersJudged}
 use Rattle.survey.proofs.Noted.{folder_names, no_folder, noted_none, noted_next, noted_not, is_folder_lem, is_none}
 
-pub state_test : (t : List ℕ) (d s : ℕ) → s ≡ state_in t d → leb 4 s ≡ leb 4 (state_in t d)
+state_test : (t : List ℕ) (d s : ℕ) → s ≡ state_in t d → leb 4 s ≡ leb 4 (state_in t d)
 state_test t d s e = rw e
 
 -- once inode 0 is judged, d being 0, the first n places are those of its names
@@ -82,7 +84,7 @@ module _ (v : List ℕ) (w : Walks v) where
 
       -- the log is empty
       pub no_log : (x : ℕ) (t tree : List ℕ) → x ≡ view (word v) b → x ≡ 0 → is_folder (view (word v)) d ≡ true → length t ≡ 224
-          → TreeFrom v (word v 1 - (d + 1)) (d + 1) tree → FolderJudged v d (record { good = true; count = 0 }) t tree
+          → TreeFrom v (word v 1 - (d + 1)) (d + 1) tree → FolderJudged v d (Some 0) t tree
       unfolding log_ok folder_ok names_of standing all foldl
       no_log x t tree e z f h s =
           let a = empty_log u (word v 0) (word v 1) d (rw (← y) (sym e ∙ z)) in
@@ -90,10 +92,10 @@ module _ (v : List ℕ) (w : Walks v) where
           let m : suc (word v 1 - (d + 1)) ≡ word v 1 - d = omega arith in
           let i : is_directory u d ≡ true = search ands in
           record {
-            good = λ _. record { log = rw (a.0, a.1, i); names = rw n };
-            lists = λ _. record { filled = record { few = omega arith; long = h; oks = refl }; names = sym n };
-            noted = λ _. rw (← m) (noted_none u (word v 0) (word v 1) few pos (word v 1 - (d + 1)) d tree n s);
-            bad = λ q. no (sym q);
+            good = λ _ _. record { log = rw (a.0, a.1, i); names = rw n };
+            lists = λ c q. rw (← (same_Some 0 c q)) (record { filled = record { few = omega arith; long = h; oks = refl }; names = sym n });
+            noted = λ _ _. rw (← m) (noted_none u (word v 0) (word v 1) few pos (word v 1 - (d + 1)) d tree n s);
+            bad = λ q. absurd (none-some 0 (sym q));
             long = h;
           }
 
@@ -114,78 +116,81 @@ module _ (v : List ℕ) (w : Walks v) where
     pub folder_walk : is_some (log_pages (view (word v)) P N d) ≡ true
     folder_walk = rw (p, q) (walk_there d l f)
 
+    refused : (t tree : List ℕ) → length t ≡ 224 → view_ok u (word v 0) (word v 1) ≡ false → FolderJudged v d None t tree
+    refused t tree k z =
+        record {
+          good = λ n h. absurd (none-some n h);
+          lists = λ n h. absurd (none-some n h);
+          noted = λ n h. absurd (none-some n h);
+          bad = λ h. z;
+          long = k;
+        }
+
+    names_are_lem : names_in v d ≡ names_of u P N d
+    names_are_lem = rw (p, q) (folder_names u (word v 0) (word v 1) few pos d l f)
+
     -- x is what `names_of` answered, and t the table that it left
-    module _ (x : Named) (t : List ℕ)
+    module _ (x : Option ℕ) (t : List ℕ)
         (g : Folds (word v) (length v) (log_ok (view (word v)) P N d && leb (length (names_of (view (word v)) P N d)) most_names)
         (names_of (view (word v)) P N d) x t) where
-      refused : (y : Named) (tree : List ℕ) → y.good ≡ false → view_ok u (word v 0) (word v 1) ≡ false → FolderJudged v d y t tree
-      refused y tree e z =
-          record {
-            good = λ h. clash y.good h e;
-            lists = λ h. clash y.good h e;
-            noted = λ h. clash y.good h e;
-            bad = λ h. z;
-            long = g.long;
-          }
-
-      names_are_lem : names_in v d ≡ names_of u P N d
-      names_are_lem = rw (p, q) (folder_names u (word v 0) (word v 1) few pos d l f)
-
-      pub names_bad : (y : Named) (tree : List ℕ) → not x.good ≡ true → y.good ≡ false → FolderJudged v d y t tree
+      pub names_bad : (y : Option ℕ) (tree : List ℕ) → x ≡ None → y ≡ None → FolderJudged v d y t tree
       unfolding folder_ok
       names_bad y tree h e =
-          refused y tree e (not_true_false (view_ok u (word v 0) (word v 1))
+          rw e (refused t tree g.long (not_true_false (view_ok u (word v 0) (word v 1))
           (λ ok.
           let valid : is_valid u d ≡ true = search ands in
           let a : log_ok u P N d ≡ true = rw (p, q) (log_ok_lem u (word v 0) (word v 1) ok d l valid) in
           let i = rw names_are_lem at ((view_fine u (word v 0) (word v 1) ok).folders d l) in
           let b : leb (length (names_of u P N d)) most_names ≡ true = search ands in
-          clash x.good (g.good ∙ rw (a, b)) (not-true x.good h)))
+          no (rw (h, a, b) at g.good))))
 
-      module _ (h : not x.good ≡ false) where
-        pub folder_filled : Filled (word v) (length v) x.count t
-        folder_filled = good_filled (word v) u (length v) P N d x t g h
+      module _ (n : ℕ) (h : x ≡ Some n) where
+        folds : Folds (word v) (length v) (log_ok u P N d && leb (length (names_of u P N d)) most_names) (names_of u P N d) (Some n) t
+        folds = rw h at g
 
-        pub folder_below : all (below 256) (inodes_from (word v) t 0 x.count) ≡ true
-        folder_below = names_small (word v) u (length v) P N d x t g h folder_type (rw q few)
+        pub folder_filled : Filled (word v) (length v) n t
+        folder_filled = good_filled (word v) u (length v) P N d n t folds
 
-        leads : inodes_from (word v) t 0 x.count ≡ inodes (names_in v d)
-        leads = rw names_are_lem (names_lead (word v) u (length v) P N d x t g h)
+        pub folder_below : all (below 256) (inodes_from (word v) t 0 n) ≡ true
+        folder_below = names_small (word v) u (length v) P N d n t folds folder_type (rw q few)
+
+        leads : inodes_from (word v) t 0 n ≡ inodes (names_in v d)
+        leads = rw names_are_lem (names_lead (word v) u (length v) P N d n t folds)
 
         log_there : log_ok u (word v 0) (word v 1) d ≡ true
-        log_there = rw (p, q) at (log_good (word v) u (length v) P N d x t g h)
+        log_there = rw (p, q) at (log_good (word v) u (length v) P N d n t folds)
 
         -- r is what `note_names` answered of the tree a, and b the tree that it left
         module _ (a b : List ℕ) (r : Bool) (s : TreeFrom v (word v 1 - (d + 1)) (d + 1) a)
-            (i : r ≡ may_note a d (inodes_from (word v) t 0 x.count)) where
-          pub notes_bad : (y : Named) → not r ≡ true → y.good ≡ false → FolderJudged v d y t b
-          notes_bad y n e =
-              refused y b e (noted_not u (word v 0) (word v 1) few pos d l f log_there (word v 1 - (d + 1)) a s (omega arith)
-              (rw (← leads) (sym i ∙ not-true r n)))
+            (i : r ≡ may_note a d (inodes_from (word v) t 0 n)) where
+          notes_bad : r ≡ false → FolderJudged v d None t b
+          notes_bad z =
+              refused t b g.long (noted_not u (word v 0) (word v 1) few pos d l f log_there (word v 1 - (d + 1)) a s (omega arith)
+              (rw (← leads) (sym i ∙ z)))
 
-          pub notes_good : not r ≡ false → (r ≡ true → b ≡ noted_all a d (inodes_from (word v) t 0 x.count))
-              → FolderJudged v d (record { good = true; count = x.count }) t b
+          notes_good : r ≡ true → (r ≡ true → b ≡ noted_all a d (inodes_from (word v) t 0 n)) → FolderJudged v d (Some n) t b
           unfolding folder_ok
-          notes_good n o =
-              let y = not-false r n in
+          notes_good y o =
               let k = noted_next u (word v 0) (word v 1) few pos d l f log_there (word v 1 - (d + 1)) a s (rw (← leads) (sym i ∙ y)) in
               let m : suc (word v 1 - (d + 1)) ≡ word v 1 - d = omega arith in
               record {
-                good = λ _.
+                good = λ _ _.
                     record {
                       log = log_there;
-                      names = rw (names_are_lem, names_few (word v) u (length v) P N d x t g h) (rw names_are_lem at k.0);
+                      names = rw (names_are_lem, names_few (word v) u (length v) P N d n t folds) (rw names_are_lem at k.0);
                     };
-                lists = λ _. record { filled = folder_filled; names = g.names (not-false x.good h) ∙ sym names_are_lem };
-                noted = λ _. rw (o y, leads, ← m) k.1;
-                bad = λ z. no (sym z);
+                lists = λ c e. rw (← (same_Some n c e)) (record { filled = folder_filled; names = folds.names n refl ∙ sym names_are_lem });
+                noted = λ _ _. rw (o y, leads, ← m) k.1;
+                bad = λ z. absurd (none-some n (sym z));
                 long = g.long;
               }
 
-  -- The loop over the folders: those from n on are judged, and the tree is t.
+          pub names_noted : (y : Option ℕ) → y ≡ then_some r n → (r ≡ true → b ≡ noted_all a d (inodes_from (word v) t 0 n))
+              → FolderJudged v d y t b
+          names_noted y e o =
+              by_bool r (λ z. rw (e, z) (notes_good z o)) (λ z. rw (e, z) (notes_bad z))
 
-  pub loop_some : (N : ℕ) → N ≡ word v 1 → 0 < N
-  loop_some N q = rw q pos
+  -- The loop over the folders: those from n on are judged, and the tree is t.
 
   pub loop_small : (n N : ℕ) → n ≤ N → N ≡ word v 1 → n - 1 < 256
   loop_small n N h q = let a = few in omega arith
@@ -204,7 +209,11 @@ module _ (v : List ℕ) (w : Walks v) where
     pub loop_tree : (k : ℕ) → k < n → TreeFrom v (word v 1 - (n - 1 + 1)) (n - 1 + 1) t
     loop_tree k g = let e : n - 1 + 1 ≡ n = omega arith in rw e s
 
-    module _ (N : ℕ) (q : N ≡ word v 1) (h : n ≤ N) (r : Bool) (e : r ≡ leb 4 (state_in t (n - 1))) where
+    -- x is the number of the state of inode n − 1, and r whether it is a folder's
+    module _ (N : ℕ) (q : N ≡ word v 1) (h : n ≤ N) (x : ℕ) (a : x ≡ state_in t (n - 1)) (r : Bool) (b : r ≡ leb 4 x) where
+      e : r ≡ leb 4 (state_in t (n - 1))
+      e = b ∙ state_test t (n - 1) x a
+
       pub loop_folder : r ≡ true → is_folder (view (word v)) (n - 1) ≡ true
       loop_folder y =
           by_eq (n - 1) 0 (λ z. rw z root_folder)
@@ -242,39 +251,30 @@ module _ (v : List ℕ) (w : Walks v) where
   pub loop_in : (n N : ℕ) → n ≤ N → N ≡ word v 1 → n - 1 < word v 1
   loop_in n N h q = let a = pos in omega arith
 
-  module _ (n : ℕ) (x : Named) (t b : List ℕ) (j : FolderJudged v (n - 1) x t b) where
-    pub judged_bad : (y : Named) → not x.good ≡ true → y.good ≡ false → FoldersJudged v y t b
-    judged_bad y h e =
-        record {
-          good = λ z. clash y.good z e;
-          lists = λ z. clash y.good z e;
-          noted = λ z. clash y.good z e;
-          bad = λ z. j.bad (not-true x.good h);
-        }
-
-    module _ (h : not x.good ≡ false) where
+  -- x is what `judge_folder` answered
+  module _ (n : ℕ) (x : Option ℕ) (t b : List ℕ) (j : FolderJudged v (n - 1) x t b) where
+    module _ (c : ℕ) (h : x ≡ Some c) where
       pub judged_tree : TreeFrom v (word v 1 - (n - 1)) (n - 1) b
-      judged_tree = j.noted (not-false x.good h)
+      judged_tree = j.noted c h
 
       pub judged_more : FoldersGood v n → FoldersGood v (n - 1)
-      judged_more o i l z f =
-          by_eq i (n - 1) (λ c. rw c (j.good (not-false x.good h))) (λ c. o i l (omega arith) f)
+      judged_more o i l z f = by_eq i (n - 1) (λ e. rw e (j.good c h)) (λ e. o i l (omega arith) f)
 
-      pub judged_listed : RootListed v (n - 1) x.count t
-      judged_listed = record { lists = λ z. subst (λ i. Lists v i x.count t) z (j.lists (not-false x.good h)) }
+      pub judged_listed : RootListed v (n - 1) c t
+      judged_listed = record { lists = λ z. subst (λ i. Lists v i c t) z (j.lists c h) }
 
     pub judged_long : length t ≡ 224
     judged_long = j.long
 
   -- All are judged; c is how many names inode 0 has.
   pub all_judged : (n c : ℕ) (b t : List ℕ) → n ≤ 0 → FoldersGood v n → RootListed v n c b → TreeFrom v (word v 1 - n) n t
-      → FoldersJudged v (record { good = true; count = c }) b t
+      → FoldersJudged v (Some c) b t
   all_judged n c b t a o i s =
       let z : n ≡ 0 = omega arith in
       let e : word v 1 - 0 ≡ word v 1 = omega arith in
       record {
-        good = λ _ k l m f. o k l (omega arith) f;
-        lists = λ _. i.lists z;
-        noted = λ _. rw (z, e) at s;
-        bad = λ q. no (sym q);
+        good = λ _ _ k l m f. o k l (omega arith) f;
+        lists = λ k q. rw (← (same_Some c k q)) (i.lists z);
+        noted = λ _ _. rw (z, e) at s;
+        bad = λ q. absurd (none-some c (sym q));
       }

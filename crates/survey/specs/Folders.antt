@@ -1,5 +1,5 @@
 -- What the functions that judge folders answer, r, and what they leave in the tables.
-use Rattle.std.specs.Prelude.{ℕ, ◌-◌, ◌≤◌, ◌<◌, ◌≡◌, Bool, true, false, List, length}
+use Rattle.std.specs.Prelude.{ℕ, ◌-◌, ◌≤◌, ◌<◌, ◌≡◌, Bool, true, false, List, length, Option, Some, None}
 use Rattle.model.specs.Lists.{all_below}
 use Rattle.model.specs.Words.{word}
 use Rattle.model.specs.Layout.{root, is_directory}
@@ -7,7 +7,6 @@ use Rattle.model.specs.Journal.{view, journal_ok}
 use Rattle.model.specs.Accept.{is_valid, is_folder, log_ok, folder_ok, view_ok, accepted}
 use Rattle.model.specs.Public.{is_volume}
 use Rattle.tree.specs.Noted.{Noted}
-use Rattle.directory.specs.declared.Named.{Named}
 use Rattle.names.specs.Listed.{names_in, Lists}
 use Rattle.inodes.specs.Judged.{shape_ok, AllJudged}
 
@@ -33,19 +32,19 @@ pub record FolderGood (v : List ℕ) (d : ℕ) : Type 0 where
   pub log : log_ok (view (word v)) (word v 0) (word v 1) d ≡ true
   pub names : folder_ok (view (word v)) (names_in v d) ≡ true
 
-pub record FolderJudged (v : List ℕ) (d : ℕ) (r : Named) (places tree : List ℕ) : Type 0 where
-  pub good : r.good ≡ true → FolderGood v d
-  pub lists : r.good ≡ true → Lists v d r.count places
-  pub noted : r.good ≡ true → TreeFrom v (word v 1 - d) d tree
-  pub bad : r.good ≡ false → view_ok (view (word v)) (word v 0) (word v 1) ≡ false
+pub record FolderJudged (v : List ℕ) (d : ℕ) (r : Option ℕ) (places tree : List ℕ) : Type 0 where
+  pub good : (n : ℕ) → r ≡ Some n → FolderGood v d
+  pub lists : (n : ℕ) → r ≡ Some n → Lists v d n places
+  pub noted : (n : ℕ) → r ≡ Some n → TreeFrom v (word v 1 - d) d tree
+  pub bad : r ≡ None → view_ok (view (word v)) (word v 0) (word v 1) ≡ false
   pub long : length places ≡ 224
 
 -- the folders from d on are as an accepted volume has them
 abbrev pub FoldersGood : List ℕ → ℕ → Type 0
 FoldersGood v d = (e : ℕ) → e < word v 1 → d ≤ e → is_folder (view (word v)) e ≡ true → FolderGood v e
 
-pub record FoldersJudged (v : List ℕ) (r : Named) (places tree : List ℕ) : Type 0 where
-  pub good : r.good ≡ true → FoldersGood v root
-  pub lists : r.good ≡ true → Lists v root r.count places
-  pub noted : r.good ≡ true → TreeFrom v (word v 1) 0 tree
-  pub bad : r.good ≡ false → view_ok (view (word v)) (word v 0) (word v 1) ≡ false
+pub record FoldersJudged (v : List ℕ) (r : Option ℕ) (places tree : List ℕ) : Type 0 where
+  pub good : (n : ℕ) → r ≡ Some n → FoldersGood v root
+  pub lists : (n : ℕ) → r ≡ Some n → Lists v root n places
+  pub noted : (n : ℕ) → r ≡ Some n → TreeFrom v (word v 1) 0 tree
+  pub bad : r ≡ None → view_ok (view (word v)) (word v 0) (word v 1) ≡ false

@@ -12,92 +12,50 @@ ghost use Rattle.tree.specs.Table.{state_in};
 ghost use Rattle.survey.specs.Folders.{Walks, TreeFrom, Shaped, FolderJudged, FoldersJudged};
 ghost use Rattle.survey.specs.Surveyed.{Surveyed};
 
-use directory::Named;
 use layout::Sizes;
-
-// What was found of a volume: whether it is accepted and, if so, how many names inode 0 has.
-#[derive(Clone, Copy)]
-pub struct Found {
-    pub accepted: bool,
-    pub names: usize,
-}
-
-// Answers that a volume is not accepted.
-// Example: not_accepted().accepted is false.
-fn not_accepted() -> Found
-    ensures { result.accepted ≡ false }
-{
-    Found {
-        accepted: false,
-        names: 0,
-    }
-}
+use marks::Marks;
+use tree::Tree;
 
 // Judges the log of folder d, whose walk ends, and where its names lead, and notes them. Puts the places of the names into a table, and
-// answers how many; not good where an entry is none of a folder's, more than 224 names stand, or one leads to an inode that is not valid or
-// to a folder that has a name already. An empty log is good and has no names; only its tail is read, for speed.
-// Example: of a volume just formatted judge_folder(v, 0, places, tree) is good and has 0 names.
-fn judge_folder(v: &[u8], d: usize, places: &mut [u16; 224], tree: &mut [u16; 256]) -> Named
+// answers how many; None where an entry is none of a folder's, more than 224 names stand, or one leads to an inode that is not valid or to a
+// folder that has a name already. An empty log has no names; only its tail is read, for speed.
+// Example: of a volume just formatted judge_folder(v, 0, places, tree) is Some(0).
+fn judge_folder(v: &[u8], d: usize, places: &mut [u16; 224], tree: &mut Tree) -> Option<usize>
     requires { Walks v.now × (d < word v.now 1) × (is_folder (view (word v.now)) d ≡ true) × (length places.old ≡ 224)
         × TreeFrom v.now (word v.now 1 - (d + 1)) (d + 1) tree.old }
     ensures { FolderJudged v.now d result places.new tree.new }
 {
     if journal::viewed(v, layout::tail_word(d)) == 0 {
-        return Named {
-            good: true,
-            count: 0,
-        };
+        return Some(0);
     }
     let sizes = Sizes::of(v);
-    let named = directory::names_of(v, d, sizes.pages, sizes.inodes, places);
-    if !named.good {
-        return directory::not_good();
-    }
-    let count = named.count;
-    if !names::note_names(v, places, count, d, tree) {
-        return directory::not_good();
-    }
-    Named { good: true, count }
-}
-
-// Answers whether inode d is a folder, by its state: FOLDER, FOLDER_NAMED or FOLDER_REACHED.
-// Example: of a tree whose element 3 is 1024 is_folder(tree, 3) is true.
-fn is_folder(tree: &[u16; 256], d: usize) -> bool
-    requires { d < 256 }
-    ensures { result ≡ leb 4 (state_in tree.now d) }
-{
-    tree::FOLDER <= tree::state_of(tree, d)
+    let count = directory::names_of(v, d, sizes, places)?;
+    names::note_names(v, places, count, d, tree).then_some(count)
 }
 
 // Judges all folders and notes their names, from the highest to inode 0, so that the table has the names of inode 0 in the end. Answers how
-// many those are; not good where a folder is not. Inode 0 is one turn of the loop like the others, for speed: judge_folder is called at
+// many those are; None where a folder is not good. Inode 0 is one turn of the loop like the others, for speed: judge_folder is called at
 // one place only and is inlined there.
-// Example: of a volume just formatted judge_folders(v, 8, places, tree) is good and has 0 names.
-fn judge_folders(v: &[u8], inodes: usize, places: &mut [u16; 224], tree: &mut [u16; 256]) -> Named
+// Example: of a volume just formatted judge_folders(v, 8, places, tree) is Some(0).
+fn judge_folders(v: &[u8], inodes: usize, places: &mut [u16; 224], tree: &mut Tree) -> Option<usize>
     requires { Walks v.now × (inodes ≡ word v.now 1) × (length places.old ≡ 224)
         × TreeFrom v.now 0 (word v.now 1) tree.old }
     ensures { FoldersJudged v.now result places.new tree.new }
 {
-    let mut left = inodes;
     let mut count: usize = 0;
-    while 0 < left {
-        let d = left - 1;
-        left = d;
-        if is_folder(tree, d) {
-            let named = judge_folder(v, d, places, tree);
-            if !named.good {
-                return directory::not_good();
-            }
-            count = named.count;
+    for d in (0..inodes).rev() {
+        let is_folder = tree.state(d).is_folder();
+        if is_folder {
+            count = judge_folder(v, d, places, tree)?;
         }
     }
-    Named { good: true, count }
+    Some(count)
 }
 
 // Judges the journal, every inode and every page of a volume, what folders' logs say apart, marks the pages in use and puts the state of
 // each inode into the table of the tree; marks and tree must be zeros. Answers whether all are good.
 // Example: of a volume just formatted judge_shapes(v, marks, tree) is true.
-fn judge_shapes(v: &[u8], marks: &mut [u8; 4096], tree: &mut [u16; 256]) -> bool
+fn judge_shapes(v: &[u8], marks: &mut Marks, tree: &mut Tree) -> bool
     requires { (is_volume (length v.now) (word v.now) ≡ true) × (marks.old ≡ replicate 4096 0) × (tree.old ≡ replicate 256 0) }
     ensures { Shaped v.now result marks.new tree.new }
 {
@@ -105,33 +63,21 @@ fn judge_shapes(v: &[u8], marks: &mut [u8; 4096], tree: &mut [u16; 256]) -> bool
     if !journal::journal_ok(v, sizes.inodes as u64) {
         return false;
     }
-    inodes::judge_inodes(v, sizes.pages, sizes.inodes, marks, tree)
+    inodes::judge_inodes(v, sizes, marks, tree)
 }
 
 // Judges a volume, puts the places of the names of inode 0 into a table, marks the pages in use, and fills the table of the tree; marks and
-// tree must be zeros. Answers whether the volume is accepted, and how many names inode 0 has. Where it is not accepted, the tables hold
-// anything.
-// Example: of a volume just formatted judge(v, places, marks, tree) answers that it is accepted and has 0 names.
-pub fn judge(
-    v: &[u8],
-    places: &mut [u16; 224],
-    marks: &mut [u8; 4096],
-    tree: &mut [u16; 256],
-) -> Found
+// tree must be zeros. Answers how many names inode 0 has; None where the volume is not accepted, and then the tables hold anything.
+// Example: of a volume just formatted judge(v, places, marks, tree) is Some(0).
+pub fn judge(v: &[u8], places: &mut [u16; 224], marks: &mut Marks, tree: &mut Tree) -> Option<usize>
     requires { (is_volume (length v.now) (word v.now) ≡ true) × (length places.old ≡ 224)
         × (marks.old ≡ replicate 4096 0) × (tree.old ≡ replicate 256 0) }
     ensures { Surveyed v.now result places.new marks.new tree.new }
 {
     if !judge_shapes(v, marks, tree) {
-        return not_accepted();
+        return None;
     }
     let sizes = Sizes::of(v);
-    let named = judge_folders(v, sizes.inodes, places, tree);
-    if !named.good {
-        return not_accepted();
-    }
-    Found {
-        accepted: tree::settle_all(tree, sizes.inodes),
-        names: named.count,
-    }
+    let count = judge_folders(v, sizes.inodes, places, tree)?;
+    tree.settle_all(sizes.inodes).then_some(count)
 }

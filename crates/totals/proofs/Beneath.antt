@@ -1,5 +1,6 @@
 -- The totals of an accepted volume v: they are small, and a turn of the loop over a folder's names adds one name.
-use Rattle.model.proofs.Prelude.{ℕ, zero, suc, ◌+◌, ◌-◌, ◌≤◌, ◌<◌, ◌≡◌, refl, sym, ◌∙◌, Bool, true, false, cond, ◌&&◌, not, List, [], arith, add-one, zero-add, sub-one, ltb, length, get_or, drop, drop-cons, drop_of_length-le, length-map, lt-ltb, le-ltb, ltb-true, not-true}
+use Rattle.model.proofs.Prelude.{ℕ, zero, suc, ◌+◌, ◌-◌, ◌≤◌, ◌<◌, ◌≡◌, refl, sym, ◌∙◌, Bool, true, false, cond, ◌&&◌, not, List, [], arith, add-one, zero-add, sub-one, ltb, length, length-take-le, get_or, get_or-take, take, drop, drop-cons, drop_of_length-le, length-map, lt-ltb, le-ltb, ltb-true, not-true}
+use Rattle.std.proofs.lemmas.List.{length-take}
 use Rattle.model.specs.Lists.{has}
 use Rattle.model.specs.Words.{Mem, word}
 use Rattle.model.specs.Layout.{is_directory}
@@ -115,12 +116,15 @@ module _ (v : List ℕ) where
     total_start (suc n) d e = rw (sub-one, zero-add)
 
     -- a turn: the i-th name leads to inode k
-    module _ (d n : ℕ) (t : List ℕ) (f : InodesOf v d n t) (i k : ℕ) (l : i < n) (e : k ≡ get_or t i 0) where
+    module _ (d n : ℕ) (t : List ℕ) (f : InodesOf v d n t) (i k : ℕ) (l : i < length (take n t)) (e : k ≡ get_or (take n t) i 0) where
+      here : i < n
+      here = omega (arith, length-take n t)
+
       k_is : k ≡ get_or (inodes_in v d) i 0
-      k_is = e ∙ f.each i l
+      k_is = e ∙ get_or-take n t i 0 here ∙ f.each i here
 
       inside : i < length (inodes_in v d)
-      inside = omega (arith, f.count)
+      inside = omega (arith, f.count, here)
 
       leads : (1 ≤ k) × (k < N) × (is_valid u k ≡ true)
       leads = rw k_is (child d (get_or (inodes_in v d) i 0) (has_get_or (inodes_in v d) i inside))
@@ -142,10 +146,13 @@ module _ (v : List ℕ) where
         pub total_fits : z ≡ beneath_in v left d → left ≤ 256 → sum + r < 18446744073709551616
         total_fits o m = omega (arith, one_more, small left d m)
 
-    pub total_end : (d n i left sum z : ℕ) (t : List ℕ) → InodesOf v d n t → n ≤ i → sum + rest (left - 1) d i ≡ z → sum ≡ z
+    pub total_end : (d n i left sum z : ℕ) (t : List ℕ) → InodesOf v d n t → length t ≡ 224 → length (take n t) ≤ i
+        → sum + rest (left - 1) d i ≡ z → sum ≡ z
     unfolding sum_over
-    total_end d n i left sum z t f l q =
-        let e = drop_of_length-le (inodes_in v d) {i = i} (omega (arith, f.count)) in let y : sum + 0 ≡ z = rw e at q in omega arith
+    total_end d n i left sum z t f g l q =
+        let s : n ≤ length t = omega (arith, f.few) in
+        let e = drop_of_length-le (inodes_in v d) {i = i} (omega (arith, f.count, length-take-le n t s)) in
+        let y : sum + 0 ≡ z = rw e at q in omega arith
 
     -- `name_total`: f is what `is_directory` answered of inode k, which is valid
     module _ (k left : ℕ) (w : is_valid u k ≡ true) (f : Bool) (e : f ≡ is_directory u k) where

@@ -1,28 +1,31 @@
 -- The inodes of a folder, laid into a table.
-use Rattle.model.proofs.Prelude.{ℕ, zero, suc, ◌+◌, ◌*◌, ◌-◌, ◌≤◌, ◌<◌, ◌≡◌, refl, sym, ◌∙◌, ap, true, List, [], ◌∷◌, arith, length, get_or, set, length-set, length-map, get_or-set_same, get_or-set_other, lt-ltb}
-use Rattle.model.specs.Lists.{all, values_from}
+use Rattle.model.proofs.Prelude.{ℕ, zero, suc, ◌+◌, ◌*◌, ◌≤◌, ◌<◌, ◌≡◌, refl, sym, ◌∙◌, ap, true, List, [], ◌∷◌, arith, drop, drop-cons, drop_of_length-le, length, get_or, set, length-set, length-map, get_or-set_same, get_or-set_other, lt-ltb}
+use Rattle.model.specs.Lists.{all}
 use Rattle.model.specs.Words.{Mem, word}
 use Rattle.model.specs.State.{inodes}
 use Rattle.model.proofs.Lists.{all_by}
-use Rattle.directory.specs.Places.{places_from, Filled}
-use Rattle.directory.proofs.Table.{places_first, standing_length}
+use Rattle.directory.specs.Places.{Filled}
+use Rattle.directory.proofs.Table.{standing_length}
 use Rattle.names.specs.Inodes.{below, inodes_from}
 use Rattle.names.specs.Listed.{names_in, Good, Turned}
 use Rattle.names.specs.declared.FolderNames.{FolderNames}
-use Rattle.names.proofs.Inodes.{inodes_of}
+use Rattle.names.proofs.Inodes.{inodes_at, inodes_of}
 use Rattle.totals.specs.Totals.{laid_from, inodes_in, InodesOf}
 use Rattle.totals.proofs.Beneath.{few, child}
 
--- `lay_inodes`: n inodes are left, from the i-th place on; z is the table that all of them give
-module _ (m : Mem) (t : List ℕ) (i n : ℕ) (x z : List ℕ) (a : laid_from x i (inodes_from m t i n) ≡ z) where
-  pub laid_next : (p k : ℕ) (y : List ℕ) → 0 < n → p ≡ get_or t i 0 → k ≡ m (8 * p + 1) → y ≡ set x i k
-      → laid_from y (i + 1) (inodes_from m t (i + 1) (n - 1)) ≡ z
-  unfolding laid_from inodes_from
-  laid_next p k y l e g h = rw (h, g, e) (rw (places_first t i n l) at a)
+-- `lay_inodes`: p is the i-th of the places ps, and k the inode that the name there leads to; z is the table that all of them give
+module _ (m : Mem) (ps : List ℕ) (i : ℕ) (x z : List ℕ) (a : laid_from x i (inodes_at m (drop i ps)) ≡ z) where
+  pub laid_next : (p k : ℕ) → i < length ps → p ≡ get_or ps i 0 → k ≡ m (8 * p + 1)
+      → laid_from (set x i k) (i + 1) (inodes_at m (drop (i + 1) ps)) ≡ z
+  unfolding laid_from
+  laid_next p k l e g =
+      let q : i + 1 ≡ suc i = omega arith in
+      let c : inodes_at m (drop i ps) ≡ k ∷ inodes_at m (drop (i + 1) ps) = ap (inodes_at m) (drop-cons ps i 0 l) ∙ rw (g, e, q) in
+      rw c at a
 
-  pub laid_all : n ≤ 0 → x ≡ z
-  unfolding laid_from inodes_from places_from values_from
-  laid_all l = let o : n ≡ 0 = omega arith in rw o at a
+  pub laid_all : length ps ≤ i → x ≡ z
+  unfolding laid_from
+  laid_all l = let e = drop_of_length-le ps {i = i} l in rw e at a
 
 laid_below : (t : List ℕ) (i : ℕ) (ks : List ℕ) (j : ℕ) → j < i → get_or (laid_from t i ks) j 0 ≡ get_or t j 0
 unfolding laid_from

@@ -3,7 +3,7 @@
 // to folder no inode comes twice.
 #![tactic(auto)]
 
-ghost use Rattle.std.specs.Prelude.{◌≡◌, true, ◌≤◌, ◌<◌, length, set, get_or};
+ghost use Rattle.std.specs.Prelude.{◌≡◌, true, ◌≤◌, ◌<◌, length};
 ghost use Rattle.model.specs.Lists.{all};
 ghost use Rattle.model.specs.Words.{word};
 ghost use Rattle.model.specs.Journal.{view};
@@ -15,24 +15,6 @@ ghost use Rattle.totals.specs.Totals.{laid_from, InodesOf, beneath_in, counts_in
 
 use layout::Sizes;
 
-// Makes k the i-th inode of a table. Answers nothing.
-// Example: put_inode(inodes, 1, 5) makes byte 1 a 5.
-fn put_inode(inodes: &mut [u8; 224], i: usize, k: usize)
-    requires { (i < 224) × (k < 256) }
-    ensures { inodes.new ≡ set inodes.old i k }
-{
-    inodes[i] = k as u8;
-}
-
-// Answers the i-th inode of a table.
-// Example: of a table that begins 3, 5 inode_in(inodes, 1) is 5.
-fn inode_in(inodes: &[u8; 224], i: usize) -> usize
-    requires { i < 224 }
-    ensures { result ≡ get_or inodes.now i 0 }
-{
-    words::wide(inodes[i]) as usize
-}
-
 // Puts the inodes that the names at the first count places of a table lead to into a table of inodes. Answers nothing.
 // Example: where the two places are of names that lead to inodes 5 and 3, it makes the first bytes 5 and 3.
 fn lay_inodes(v: &[u8], places: &[u16; 224], count: usize, inodes: &mut [u8; 224])
@@ -41,14 +23,8 @@ fn lay_inodes(v: &[u8], places: &[u16; 224], count: usize, inodes: &mut [u8; 224
     ensures { inodes.new
         ≡ laid_from inodes.old 0 (inodes_from (word v.now) places.now 0 count) }
 {
-    let mut i: usize = 0;
-    let mut left = count;
-    while 0 < left {
-        let p = directory::place(places, i);
-        let k = names::inode_at(v, p);
-        put_inode(inodes, i, k);
-        i = i + 1;
-        left = left - 1;
+    for (i, p) in places[..count].iter().enumerate() {
+        inodes[i] = directory::inode_at(v, usize::from(*p)) as u8;
     }
 }
 
@@ -59,8 +35,7 @@ fn inodes_of(v: &[u8], d: usize, places: &mut [u16; 224], inodes: &mut [u8; 224]
     requires { Good v.now × (length places.old ≡ 224) × (length inodes.old ≡ 224) }
     ensures { InodesOf v.now d result inodes.new × (length places.new ≡ 224) }
 {
-    let listed = names::list_names(v, d, places);
-    let count = listed.count;
+    let count = names::list_names(v, d, places).count;
     lay_inodes(v, places, count, inodes);
     count
 }
@@ -77,12 +52,9 @@ pub fn folder_total(v: &[u8], d: usize, left: usize, places: &mut [u16; 224]) ->
     }
     let mut inodes = [0u8; 224];
     let n = inodes_of(v, d, places, &mut inodes);
-    let mut sum: u64 = 0;
-    let mut i: usize = 0;
-    while i < n {
-        let k = inode_in(&inodes, i);
-        sum = sum + name_total(v, k, left - 1, places);
-        i = i + 1;
+    let mut sum = 0;
+    for k in &inodes[..n] {
+        sum += name_total(v, usize::from(*k), left - 1, places);
     }
     sum
 }
@@ -98,6 +70,5 @@ pub fn name_total(v: &[u8], k: usize, left: usize, places: &mut [u16; 224]) -> u
     if names::is_directory(v, k) {
         return folder_total(v, k, left, places);
     }
-    let sizes = Sizes::of(v);
-    files::last_size(v, k, sizes.pages, sizes.inodes)
+    files::last_size(v, k, Sizes::of(v))
 }

@@ -1,5 +1,5 @@
--- The cases of `note` and `released`: s is what `state_of` answered of inode k in the table t, and n the state after one name more.
-use Rattle.model.proofs.Prelude.{ℕ, ◌≡◌, true, false, cond, List, eqb, ne_eqb}
+-- The cases of `note`: s is the number of the state of inode k in the table t, and n that of the state after one name more.
+use Rattle.model.proofs.Prelude.{ℕ, ◌≡◌, true, false, List, ne_eqb}
 use Rattle.model.proofs.Tests.{no}
 use Rattle.tree.specs.Table.{state_in, with_state, after_name, may_name, noted}
 
@@ -18,10 +18,3 @@ module _ (t : List ℕ) (k s n : ℕ) (e : s ≡ state_in t k) (g : n ≡ after_
 
 pub no_note : {X : Type 0} → false ≡ true → X
 no_note e = no e
-
-module _ (t : List ℕ) (k s : ℕ) (e : s ≡ state_in t k) where
-  pub often : s ≡ 3 → 0 ≡ cond (eqb (state_in t k) 3) 0 k
-  often h = rw (← e, h)
-
-  pub once : (s ≡ 3 → ⊥) → k ≡ cond (eqb (state_in t k) 3) 0 k
-  once h = rw (← e, ne_eqb s 3 h)

@@ -1,10 +1,10 @@
 -- Names that are noted one after the other: what the table shows of the inodes, and why a name cannot be noted.
-use Rattle.model.proofs.Prelude.{ℕ, zero, suc, ◌+◌, ◌*◌, ◌≤◌, ◌<◌, ◌≡◌, refl, sym, ◌∙◌, ◌⊎◌, inl, inr, ⊎_elim, Bool, true, false, cond, List, [], ◌∷◌, Option, none, some, arith, zero-add, length-set, get_or-set_same, get_or-set_other, eqb, eq-eqb, ne_eqb, lt-ltb, le-ltb}
-use Rattle.model.specs.Lists.{bit, sum_below, all, lowest, has, count, or_else}
+use Rattle.model.proofs.Prelude.{ℕ, zero, suc, ◌+◌, ◌*◌, ◌≤◌, ◌<◌, ◌≡◌, refl, sym, ◌∙◌, ◌⊎◌, inl, inr, ⊎_elim, Bool, true, false, cond, List, [], ◌∷◌, arith, zero-add, length-set, get_or-set_same, get_or-set_other, eqb, eq-eqb, ne_eqb, lt-ltb, le-ltb}
+use Rattle.model.specs.Lists.{bit, sum_below, all, lowest, has, count}
 use Rattle.model.specs.State.{inodes}
 use Rattle.model.specs.Tree.{Folders, name_count, parent_of}
 use Rattle.model.proofs.Tests.{by_bool, by_eq, no, bit_same, bit_other}
-use Rattle.model.proofs.Lists.{has_head, has_tail, lowest_is}
+use Rattle.model.proofs.Lists.{has_head, has_tail}
 use Rattle.tree.specs.Table.{state_in, after_name, may_name, noted, noted_all, may_note}
 use Rattle.tree.specs.Noted.{count_from, parent_from, file_state, noted_state, Shows}
 
@@ -155,14 +155,6 @@ module _ (F : Folders) where
   pub parent_next : (n d k : ℕ) → cond (has k (inodes (F d))) d (parent_from F n (d + 1) k) ≡ parent_from F (suc n) d k
   unfolding parent_from lowest
   parent_next n d k = by_bool (has k (inodes (F d))) (λ e. rw (lowest, e)) (λ e. rw (lowest, e))
-
-  pub parent_near : (N n d k : ℕ) → n + d ≤ N → 0 < N → parent_from F n d k < N
-  unfolding parent_from
-  parent_near N n d k l g = go (lowest (λ e. has k (inodes (F e))) n d) refl
-    where
-      go : (o : Option ℕ) → lowest (λ e. has k (inodes (F e))) n d ≡ o → or_else o 0 < N
-      go none e = g
-      go (some x) e = let r = lowest_is (λ e. has k (inodes (F e))) n d x e in omega (arith, r.below)
 
   pub parent_whole : (N k : ℕ) → parent_from F N 0 k ≡ parent_of N F k
   unfolding parent_from parent_of

@@ -99,25 +99,7 @@ module _ (N : ℕ) (few : N ≤ 256) (t₀ : List ℕ) (u : Unsettled N t₀) wh
       (way_marks n (with_state t f 6 (parent_in t f)) (parent_in t f) (mark_one t m f l e c) (rw p (u.parents f l)) above))
       (λ e. rw (way_marked, ne_eqb (state_in t f) 5 e) m)
 
-  -- The loop of `settle_all`.
-
-  pub settling_start : Settling N N t₀ t₀
-  settling_start = record { marks = record { kept = λ k l. inl refl; long = u.long }; done = λ k a b. absurd (omega arith) }
-
-  pub all_settled : (left : ℕ) (t : List ℕ) → Settling N left t₀ t → left ≤ 0 → SettlesAll N t₀ true t
-  all_settled left t s z =
-      record {
-        named = λ y k l. let d = s.done k (omega arith) l in (d.0, d.1);
-        reached = λ y k l e.
-            let d = (s.done k (omega arith) l).2 e in
-            ⊎_elim (λ q. absurd (omega (arith, sym q ∙ d, e))) (λ w. w.2) (s.marks.kept k l);
-        list = λ y k l.
-            by_eq (state_in t₀ k) 5 (λ e. rw (eq-eqb (state_in t₀ k) 5 e) ((s.done k (omega arith) l).2 e))
-            (λ e. rw (ne_eqb (state_in t₀ k) 5 e) (⊎_elim (λ q. q) (λ w. absurd (e w.0)) (s.marks.kept k l)));
-        bad = λ y. no (sym y);
-      }
-
-  -- inode k = left - 1 was asked, and r is whether it passes
+  -- The loop of `settle_all`: inode k = left - 1 was asked, and r is whether it passes.
   module _ (left k : ℕ) (t : List ℕ) (s : Settling N left t₀ t) (few_left : left ≤ N) (some : 0 < left) (ek : k ≡ left - 1)
       (r : Bool) (h : r ≡ passes t N k) where
     inside : k < N

@@ -2,3 +2,4 @@
 pub mod Table
 pub mod Way
 pub mod Noted
+pub mod Node

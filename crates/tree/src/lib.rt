@@ -1,215 +1,260 @@
-// The tree of folders, as a table with an element for each inode: its state times 256, and its parent. The state says what the inode is and
-// how many names were noted of it; the parent is the lowest folder that has one, 0 where none has. The folders are noted from the highest
-// inode to inode 0, so that the parent is the folder noted last. Nothing here looks at the volume.
+// The tree of folders, as a table with a node for each inode: its state and its parent. The state says what the inode is and how many names
+// were noted of it; the parent is the lowest folder that has one, inode 0 where none has. The folders are noted from the highest inode to
+// inode 0, so that the parent is the folder noted last. Nothing here looks at the volume.
 #![tactic(auto)]
 
-ghost use Rattle.std.specs.Prelude.{◌≡◌, true, cond, ◌≤◌, ◌<◌, eqb};
+ghost use Rattle.std.specs.Prelude.{◌≡◌, true, cond, ◌≤◌, ◌<◌, ◌+◌, List, ℕ, Option, eqb, leb, map, length, replicate};
 ghost use Rattle.tree.specs.Table.{state_in, parent_in, with_state, after_name, may_name, noted, above_in, Unsettled, SettlesAll};
+ghost use Rattle.tree.specs.Node.{state_number, state_number_or, node_number, ParentsFit};
 ghost use Rattle.tree.specs.Way.{meets_in, way_marked, passes, passed};
 
-// The state of an inode that is not valid.
-pub const FREE: u16 = 0;
+use std::marker::Model;
 
-// A file of which no name was noted.
-pub const FILE: u16 = 1;
-
-// A file with one name.
-pub const FILE_ONCE: u16 = 2;
-
-// A file with two names or more.
-pub const FILE_OFTEN: u16 = 3;
-
-// A folder of which no name was noted.
-pub const FOLDER: u16 = 4;
-
-// A folder with one name.
-pub const FOLDER_NAMED: u16 = 5;
-
-// A folder with one name that is reached from inode 0, or inode 0 itself.
-pub const FOLDER_REACHED: u16 = 6;
-
-// What no inode of an accepted volume is. No table holds it.
-pub const BAD: u16 = 7;
-
-// Answers the state of inode k.
-// Example: where element 3 is 1282, state_of(tree, 3) is 5, FOLDER_NAMED.
-pub fn state_of(tree: &[u16; 256], k: usize) -> u16
-    requires { k < 256 }
-    ensures { result ≡ state_in tree.now k }
-{
-    tree[k] / 256
+// What an inode is, and how many names were noted of it. specs/Node.antt gives the number of each case.
+#[derive(Clone, Copy, PartialEq, Eq)]
+pub enum State {
+    // not valid
+    Free,
+    // a file of which no name was noted
+    File,
+    // a file with one name
+    FileOnce,
+    // a file with two names or more
+    FileOften,
+    // a folder of which no name was noted
+    Folder,
+    // a folder with one name
+    FolderNamed,
+    // a folder with one name that is reached from inode 0, or inode 0 itself
+    FolderReached,
 }
 
-// Answers the parent of inode k.
-// Example: where element 3 is 1282, parent_of(tree, 3) is 2.
-pub fn parent_of(tree: &[u16; 256], k: usize) -> usize
-    requires { k < 256 }
-    ensures { (result ≡ parent_in tree.now k) × (result < 256) }
-{
-    words::wide_index(tree[k] % 256)
-}
-
-// Gives inode k a state and a parent. Answers nothing.
-// Example: put(tree, 3, FOLDER_NAMED, 2) makes element 3 1282.
-pub fn put(tree: &mut [u16; 256], k: usize, state: u16, parent: usize)
-    requires { (k < 256) × (state ≤ 7) × (parent < 256) }
-    ensures { tree.new ≡ with_state tree.old k state parent }
-{
-    tree[k] = 256 * state + parent as u16;
-}
-
-// Answers the state that an inode of a state has after one name more; BAD where no inode may have that name: one that is not valid none,
-// and a folder no second one.
-// Example: after_name(FILE) is FILE_ONCE, and after_name(FOLDER_NAMED) is BAD.
-fn after_name(state: u16) -> u16
-    ensures { (result ≡ after_name state) × (result ≤ 7) }
-{
-    if state == FILE {
-        return FILE_ONCE;
-    }
-    if state == FILE_ONCE {
-        return FILE_OFTEN;
-    }
-    if state == FILE_OFTEN {
-        return FILE_OFTEN;
-    }
-    if state == FOLDER {
-        return FOLDER_NAMED;
-    }
-    BAD
-}
-
-// Notes a name of folder d that leads to inode k. Answers whether inode k may have it; else it leaves the table.
-// Example: where inode 5 is a file of which no name was noted, note(tree, 5, 2) is true, and its state is FILE_ONCE and its parent 2.
-pub fn note(tree: &mut [u16; 256], k: usize, d: usize) -> bool
-    requires { (k < 256) × (d < 256) }
-    ensures { (result ≡ may_name (state_in tree.old k))
-        × (result ≡ true → tree.new ≡ noted tree.old k d) }
-{
-    let state = after_name(state_of(tree, k));
-    if state == BAD {
-        return false;
-    }
-    put(tree, k, state, d);
-    true
-}
-
-// Answers whether the way up from folder k meets a folder that is reached: k itself, or one of the `steps` next above it.
-// Example: where inode 5 has parent 2 and inode 2 is reached, meets(tree, 5, 1) is true and meets(tree, 5, 0) false.
-fn meets(tree: &[u16; 256], k: usize, steps: usize) -> bool
-    requires { k < 256 }
-    ensures { result ≡ meets_in tree.now steps k }
-{
-    let mut f = k;
-    let mut left = steps;
-    while 0 < left {
-        if state_of(tree, f) == FOLDER_REACHED {
-            return true;
+impl State {
+    // Answers whether it is that of a folder.
+    // Example: State::FolderNamed.is_folder() is true.
+    pub fn is_folder(self) -> bool
+        ensures { result ≡ leb 4 (state_number self) }
+    {
+        match self {
+            State::Folder | State::FolderNamed | State::FolderReached => true,
+            State::Free | State::File | State::FileOnce | State::FileOften => false,
         }
-        f = parent_of(tree, f);
-        left = left - 1;
     }
-    state_of(tree, f) == FOLDER_REACHED
-}
 
-// Makes the folders on the way up from folder k reached ones, as far as the first that is one already or has no name, and at most `steps`
-// of them. Answers nothing. A folder without a name keeps its state, since its own turn must find it.
-// Example: where inode 5 has parent 2 and inode 2 is reached, mark_way(tree, 5, 256) makes 5 a reached one.
-fn mark_way(tree: &mut [u16; 256], k: usize, steps: usize)
-    requires { k < 256 }
-    ensures { tree.new ≡ way_marked tree.old steps k }
-{
-    let mut f = k;
-    let mut left = steps;
-    while 0 < left {
-        if state_of(tree, f) != FOLDER_NAMED {
-            return;
+    // Answers whether it is that of a folder that is reached from inode 0.
+    // Example: State::FolderReached.is_reached() is true, and State::FolderNamed.is_reached() is false.
+    fn is_reached(self) -> bool
+        ensures { result ≡ eqb (state_number self) 6 }
+    {
+        match self {
+            State::FolderReached => true,
+            State::Free
+            | State::File
+            | State::FileOnce
+            | State::FileOften
+            | State::Folder
+            | State::FolderNamed => false,
         }
-        let parent = parent_of(tree, f);
-        put(tree, f, FOLDER_REACHED, parent);
-        f = parent;
-        left = left - 1;
+    }
+
+    // Answers the state after one name more, None where no inode may have that name: one that is not valid none, and a folder no second
+    // one.
+    // Example: State::File.after_name() is Some(State::FileOnce), and State::FolderNamed.after_name() is None.
+    #[tactic(auto, unfolding(crate::specs::Table::after_name))]
+    fn after_name(self) -> Option<State>
+        ensures { state_number_or result ≡ after_name (state_number self) }
+    {
+        match self {
+            State::File => Some(State::FileOnce),
+            State::FileOnce | State::FileOften => Some(State::FileOften),
+            State::Folder => Some(State::FolderNamed),
+            State::Free | State::FolderNamed | State::FolderReached => None,
+        }
     }
 }
 
-// Answers whether folder k is reached from inode 0; then it marks the way up, so that all ways together take no more steps than three for
-// each folder.
-// Example: where inode 5 has parent 2 and inode 2 has parent 5, reach(tree, 5, 8) is false.
-fn reach(tree: &mut [u16; 256], k: usize, inodes: usize) -> bool
-    requires { k < 256 }
-    ensures { (result ≡ meets_in tree.old inodes k) × (result ≡ true → tree.new ≡ way_marked tree.old inodes k) }
-{
-    if !meets(tree, k, inodes) {
-        return false;
-    }
-    mark_way(tree, k, inodes);
-    true
+// What the table has of an inode.
+#[derive(Clone, Copy)]
+struct Node {
+    state: State,
+    parent: u8,
 }
 
-// Judges inode k after all names were noted. Answers whether it has a name, if it is valid, and is reached from inode 0, if it is a folder.
-// Example: where the state of inode 3 is FILE, settle(tree, 3, 8) is false.
-fn settle(tree: &mut [u16; 256], k: usize, inodes: usize) -> bool
-    requires { k < 256 }
-    ensures { (result ≡ passes tree.old inodes k) × (result ≡ true → tree.new ≡ passed tree.old inodes k) }
-{
-    let state = state_of(tree, k);
-    if state == FILE {
-        return false;
-    }
-    if state == FOLDER {
-        return false;
-    }
-    if state == FOLDER_NAMED {
-        return reach(tree, k, inodes);
-    }
-    true
+// The table. In a clause it is a list of numbers, 256 times the state of an inode and its parent (specs/Table.antt).
+#[derive(Drop)]
+pub struct Tree {
+    nodes: [Node; 256],
 }
 
-// Judges every inode after all names were noted. Answers whether each valid file has a name, and each valid folder but inode 0 one name and
-// is reached from inode 0.
-// Example: of a volume just formatted it is true; where inodes 2 and 5 are folders and each is the parent of the other, it is false.
-pub fn settle_all(tree: &mut [u16; 256], inodes: usize) -> bool
-    requires { Unsettled inodes tree.old × (0 < inodes) × (inodes ≤ 256) }
-    ensures { SettlesAll inodes tree.old result tree.new }
-{
-    let mut left = inodes;
-    while 0 < left {
-        let k = left - 1;
-        if !settle(tree, k, inodes) {
+impl Model for Tree {
+    ghost Value = { List ℕ };
+
+    ghost view = { λ t. map node_number t.nodes };
+
+    ghost invariant = { λ t. (length t.nodes ≡ 256) × ParentsFit t.nodes };
+}
+
+impl Tree {
+    // Answers a table in which no inode is valid.
+    // Example: Tree::new().state(3) is State::Free.
+    pub fn new() -> Tree
+        ensures { result ≡ replicate 256 0 }
+    {
+        Tree {
+            nodes: [Node {
+                state: State::Free,
+                parent: 0,
+            }; 256],
+        }
+    }
+
+    // Answers the state of inode k.
+    // Example: after put(3, State::FolderNamed, 2) state(3) is State::FolderNamed.
+    pub fn state(&self, k: usize) -> State
+        requires { k < 256 }
+        ensures { state_number result ≡ state_in self.now k }
+    {
+        self.nodes[k].state
+    }
+
+    // Answers the parent of inode k.
+    // Example: after put(3, State::FolderNamed, 2) parent(3) is 2.
+    pub fn parent(&self, k: usize) -> usize
+        requires { k < 256 }
+        ensures { (result ≡ parent_in self.now k) × (result < 256) }
+    {
+        usize::from(self.nodes[k].parent)
+    }
+
+    // Gives inode k a state and a parent. Answers nothing.
+    // Example: after put(3, State::FolderNamed, 2) inode 3 is a folder with one name, in folder 2.
+    pub fn put(&mut self, k: usize, state: State, parent: usize)
+        requires { (k < 256) × (parent < 256) }
+        ensures { self.new ≡ with_state self.old k (state_number state) parent }
+    {
+        self.nodes[k] = Node {
+            state,
+            parent: parent as u8,
+        };
+    }
+
+    // Notes a name of folder d that leads to inode k. Answers whether inode k may have it; else it leaves the table.
+    // Example: where inode 5 is a file of which no name was noted, note(5, 2) is true, and its state is State::FileOnce and its parent 2.
+    pub fn note(&mut self, k: usize, d: usize) -> bool
+        requires { (k < 256) × (d < 256) }
+        ensures { (result ≡ may_name (state_in self.old k))
+            × (result ≡ true → self.new ≡ noted self.old k d) }
+    {
+        let Some(state) = self.state(k).after_name() else {
+            return false;
+        };
+        self.put(k, state, d);
+        true
+    }
+
+    // Answers whether the way up from folder k meets a folder that is reached: k itself, or one of the `steps` next above it.
+    // Example: where inode 5 has parent 2 and inode 2 is reached, meets(5, 1) is true and meets(5, 0) false.
+    fn meets(&self, k: usize, steps: usize) -> bool
+        requires { k < 256 }
+        ensures { result ≡ meets_in self.now steps k }
+    {
+        let mut f = k;
+        for _ in 0..steps {
+            if self.state(f).is_reached() {
+                return true;
+            }
+            f = self.parent(f);
+        }
+        self.state(f).is_reached()
+    }
+
+    // Makes the folders on the way up from folder k reached ones, as far as the first that is one already or has no name, and at most
+    // `steps` of them. Answers nothing. A folder without a name keeps its state, since its own turn must find it.
+    // Example: where inode 5 has parent 2 and inode 2 is reached, mark_way(5, 256) makes 5 a reached one.
+    fn mark_way(&mut self, k: usize, steps: usize)
+        requires { k < 256 }
+        ensures { self.new ≡ way_marked self.old steps k }
+    {
+        let mut f = k;
+        for _ in 0..steps {
+            match self.state(f) {
+                State::FolderNamed => {}
+                _ => return,
+            }
+            let parent = self.parent(f);
+            self.put(f, State::FolderReached, parent);
+            f = parent;
+        }
+    }
+
+    // Answers whether folder k is reached from inode 0; then it marks the way up, so that all ways together take no more steps than three
+    // for each folder.
+    // Example: where inode 5 has parent 2 and inode 2 has parent 5, reach(5, 8) is false.
+    fn reach(&mut self, k: usize, inodes: usize) -> bool
+        requires { k < 256 }
+        ensures { (result ≡ meets_in self.old inodes k) × (result ≡ true → self.new ≡ way_marked self.old inodes k) }
+    {
+        if !self.meets(k, inodes) {
             return false;
         }
-        left = k;
+        self.mark_way(k, inodes);
+        true
     }
-    true
-}
 
-// Answers whether folder f is folder k or lies above it.
-// Example: where inode 5 has parent 2, is_beneath(tree, 2, 5, 8) and is_beneath(tree, 5, 5, 8) are true, and is_beneath(tree, 5, 2, 8) is
-// false.
-pub fn is_beneath(tree: &[u16; 256], f: usize, k: usize, inodes: usize) -> bool
-    requires { k < 256 }
-    ensures { result ≡ above_in tree.now inodes f k }
-{
-    let mut g = k;
-    let mut left = inodes;
-    while 0 < left {
-        if g == f {
-            return true;
+    // Judges inode k after all names were noted. Answers whether it has a name, if it is valid, and is reached from inode 0, if it is a
+    // folder.
+    // Example: where the state of inode 3 is State::File, settle(3, 8) is false.
+    fn settle(&mut self, k: usize, inodes: usize) -> bool
+        requires { k < 256 }
+        ensures { (result ≡ passes self.old inodes k) × (result ≡ true → self.new ≡ passed self.old inodes k) }
+    {
+        match self.state(k) {
+            State::File | State::Folder => false,
+            State::FolderNamed => self.reach(k, inodes),
+            State::Free | State::FileOnce | State::FileOften | State::FolderReached => true,
         }
-        g = parent_of(tree, g);
-        left = left - 1;
     }
-    g == f
-}
 
-// Answers inode k, if exactly one name leads to it; else 0. No name leads to inode 0.
-// Example: where two names lead to inode 3, released(tree, 3) is 0.
-pub fn released(tree: &[u16; 256], k: usize) -> usize
-    requires { k < 256 }
-    ensures { result ≡ cond (eqb (state_in tree.now k) 3) 0 k }
-{
-    if state_of(tree, k) == FILE_OFTEN {
-        return 0;
+    // Judges every inode after all names were noted. Answers whether each valid file has a name, and each valid folder but inode 0 one name
+    // and is reached from inode 0.
+    // Example: of a volume just formatted it is true; where inodes 2 and 5 are folders and each is the parent of the other, it is false.
+    pub fn settle_all(&mut self, inodes: usize) -> bool
+        requires { Unsettled inodes self.old × (0 < inodes) × (inodes ≤ 256) }
+        ensures { SettlesAll inodes self.old result self.new }
+    {
+        for k in (0..inodes).rev() {
+            if !self.settle(k, inodes) {
+                return false;
+            }
+        }
+        true
     }
-    k
+
+    // Answers whether folder f is folder k or lies above it.
+    // Example: where inode 5 has parent 2, is_beneath(2, 5, 8) and is_beneath(5, 5, 8) are true, and is_beneath(5, 2, 8) is false.
+    pub fn is_beneath(&self, f: usize, k: usize, inodes: usize) -> bool
+        requires { k < 256 }
+        ensures { result ≡ above_in self.now inodes f k }
+    {
+        let mut g = k;
+        for _ in 0..inodes {
+            if g == f {
+                return true;
+            }
+            g = self.parent(g);
+        }
+        g == f
+    }
+
+    // Answers inode k, if exactly one name leads to it; else 0. No name leads to inode 0.
+    // Example: where two names lead to inode 3, released(3) is 0.
+    pub fn released(&self, k: usize) -> usize
+        requires { k < 256 }
+        ensures { result ≡ cond (eqb (state_in self.now k) 3) 0 k }
+    {
+        match self.state(k) {
+            State::FileOften => 0,
+            _ => k,
+        }
+    }
 }

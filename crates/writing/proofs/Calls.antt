@@ -1,6 +1,7 @@
 -- Write and set size: the file's state stands for the first checks, the call's own come after it, and what is left is an append to the
 -- file's log.
 use Rattle.model.proofs.Prelude.{ℕ, ◌+◌, ◌*◌, ◌/◌, max, ◌≤◌, ◌<◌, ◌≡◌, refl, sym, ◌∙◌, ap, true, false, cond, List, [], ◌∷◌, ◌++◌, some, arith, lt-ltb, le-ltb, eq-eqb, ne_eqb, ltb, eqb, length, get_or, take, replicate, get_or-take}
+use Rattle.std.specs.Prelude.{Result, Ok, Err, IsErrAnd}
 use Rattle.model.specs.Words.{word}
 use Rattle.model.specs.Layout.{file_bytes, write_bytes}
 use Rattle.model.specs.Journal.{view}
@@ -9,7 +10,7 @@ use Rattle.model.specs.State.{File, file_of}
 use Rattle.model.specs.Stores.{no_words, store_list}
 use Rattle.model.specs.Accept.{is_valid}
 use Rattle.model.specs.FileMap.{Call, write, set_size}
-use Rattle.model.specs.Answer.{done, Checks, first_refusal, short_memory, long_write, past_the_end}
+use Rattle.model.specs.Answer.{done, Checks, first_refusal, long_write, past_the_end}
 use Rattle.model.specs.Calls as calls
 use Rattle.model.specs.Calls.{pages_covered, file_checks, checks, groups, action, action_checks, action_groups, space_checks, write_append, write_action, size_append, size_action}
 use Rattle.model.specs.Public.{volume_checks, closed_checks, needs_closed, size, size_answer}
@@ -18,13 +19,12 @@ use Rattle.contents.specs.Laid.{laid}
 use Rattle.entries.specs.Table.{entries_of}
 use Rattle.entries.proofs.Entries.{one_entry}
 use Rattle.stores.specs.Added.{element}
-use Rattle.answer.specs.Meaning.{meaning, numbered}
+use Rattle.answer.specs.Meaning.{meaning, numbered, number_of}
 use Rattle.answer.specs.Comes.{Comes, came_to}
-use Rattle.answer.specs.declared.Answer.{Answer}
-use Rattle.answer.specs.declared.Answer.TheVariants.{Number, ShortMemory, LongWrite, PastTheEnd}
-use Rattle.answer.proofs.Codes.{NoNumber}
-use Rattle.answer.proofs.Checked.{same_refusal, none_refuses}
-use Rattle.answer.proofs.Coming.{comes_refused, comes_told, comes_none, comes_as}
+use Rattle.answer.specs.declared.Refusal.{Refusal}
+use Rattle.answer.specs.declared.Refusal.TheVariants.{ShortMemory, LongWrite, PastTheEnd}
+use Rattle.answer.proofs.Checked.{passed_on, same_refusal, none_refuses}
+use Rattle.answer.proofs.Coming.{comes_refused, comes_none, comes_as}
 use Rattle.append.specs.declared.Append.{Append}
 use Rattle.append.specs.Appended.{asked, plain, action_of, outcome, Ready}
 use Rattle.append.proofs.Outcomes.{one_log_ready, one_log, all_first, zeroed_none, also_nothing, outcome_words}
@@ -43,25 +43,28 @@ module _ (v l : List ℕ) (c : Call) (closed : needs_closed c ≡ true) (k : ℕ
   abbrev first : Checks
   first = closed_checks (length v) (word v) ++ file_checks (view (word v)) (word v 0) (word v 1) k
 
-  short : length l < 4096 → Comes (came_to v l c) l ShortMemory l
+  short : length l < 4096 → Comes (came_to v l c) l (Err ShortMemory) l
   unfolding fill_checks
-  short h = comes_refused (came_to v l c) l ShortMemory short_memory refl (rw (came v l c closed, lt-ltb (length l) 4096 h))
+  short h = comes_refused (came_to v l c) l ShortMemory (rw (came v l c closed, lt-ltb (length l) 4096 h))
 
-  module _ (h : 4096 ≤ length l) (r : Answer) (marks t : List ℕ) (a : Stated v k r marks t) where
+  module _ (h : 4096 ≤ length l) (marks t : List ℕ) where
     staged : came_to v l c ≡ first_refusal first (first_refusal rest (done (filled_words v c)))
     unfolding fill_checks closed_checks volume_checks file_checks
     staged = rw (came v l c closed, le-ltb (length l) 4096 h, own)
 
-    sized : meaning r ≡ numbered (first_refusal first (done (file_of (view (word v)) (word v 0) (word v 1) k).size))
+    sized : (r : Result ℕ Refusal) → Stated v k r marks t
+        → meaning r ≡ numbered (first_refusal first (done (file_of (view (word v)) (word v 0) (word v 1) k).size))
     unfolding size_answer size
-    sized = a.answer
+    sized r a = a.answer
 
-    state_refused : NoNumber r → Comes (came_to v l c) l r l
-    state_refused o =
-        comes_told (came_to v l c) l r o (rw staged (same_refusal r first _ sized (λ x. some (length x)) (first_refusal rest (done (filled_words v c))) o))
+    state_refused : (e : Refusal) (r : Result ℕ Refusal) → IsErrAnd r (λ d. d ≡ e) → Stated v k (Err e) marks t → Comes (came_to v l c) l r l
+    state_refused e r p a =
+        rw (passed_on e r p)
+        (comes_refused (came_to v l c) l e
+        (staged ∙ same_refusal (number_of e) first _ (sized (Err e) a) (first_refusal rest (done (filled_words v c)))))
 
-    behind : (s : ℕ) → r ≡ Number s → came_to v l c ≡ first_refusal rest (done (filled_words v c))
-    behind s e = staged ∙ none_refuses first _ s (rw e at sized) (first_refusal rest (done (filled_words v c)))
+    behind : (s : ℕ) → Stated v k (Ok s) marks t → came_to v l c ≡ first_refusal rest (done (filled_words v c))
+    behind s a = staged ∙ none_refuses first _ s (sized (Ok s) a) (first_refusal rest (done (filled_words v c)))
 
 -- An append to the file's log: d is the append as the code makes it.
 module _ (v l : List ℕ) (h : 4096 ≤ length l) (k s : ℕ) (marks t : List ℕ) (f : FileState v k s marks t)
@@ -105,31 +108,32 @@ module _ (v l : List ℕ) (k o : ℕ) (bs : List ℕ) where
   unfolding checks action action_checks write_action file_checks
   write_own = refl
 
-  pub write_short : length l < 4096 → Comes (came_to v l (write k o bs)) l ShortMemory l
+  pub write_short : length l < 4096 → Comes (came_to v l (write k o bs)) l (Err ShortMemory) l
   write_short h = short v l (write k o bs) refl k write_rest write_own h
 
-  module _ (h : 4096 ≤ length l) (r : Answer) (marks t : List ℕ) (a : Stated v k r marks t) where
-    pub write_refused : NoNumber r → Comes (came_to v l (write k o bs)) l r l
-    write_refused n = state_refused v l (write k o bs) refl k write_rest write_own h r marks t a n
+  module _ (h : 4096 ≤ length l) (marks t : List ℕ) where
+    pub write_refused : (e : Refusal) (r : Result ℕ Refusal) → IsErrAnd r (λ d. d ≡ e) → Stated v k (Err e) marks t
+        → Comes (came_to v l (write k o bs)) l r l
+    write_refused e r p a = state_refused v l (write k o bs) refl k write_rest write_own h marks t e r p a
 
-    module _ (s : ℕ) (e : r ≡ Number s) where
+    module _ (s : ℕ) (a : Stated v k (Ok s) marks t) where
       write_behind : came_to v l (write k o bs) ≡ first_refusal write_rest (done (filled_words v (write k o bs)))
-      write_behind = behind v l (write k o bs) refl k write_rest write_own h r marks t a s e
+      write_behind = behind v l (write k o bs) refl k write_rest write_own h marks t s a
 
-      pub write_long : 4096 < length bs → Comes (came_to v l (write k o bs)) l LongWrite l
-      write_long i = comes_refused (came_to v l (write k o bs)) l LongWrite long_write refl (rw (write_behind, lt-ltb 4096 (length bs) i))
+      pub write_long : 4096 < length bs → Comes (came_to v l (write k o bs)) l (Err LongWrite) l
+      write_long i = comes_refused (came_to v l (write k o bs)) l LongWrite (rw (write_behind, lt-ltb 4096 (length bs) i))
 
       module _ (i : length bs ≤ 4096) where
-        pub write_ends_past : 65536 < o + length bs → Comes (came_to v l (write k o bs)) l PastTheEnd l
+        pub write_ends_past : 65536 < o + length bs → Comes (came_to v l (write k o bs)) l (Err PastTheEnd) l
         write_ends_past j =
-            comes_refused (came_to v l (write k o bs)) l PastTheEnd past_the_end refl
+            comes_refused (came_to v l (write k o bs)) l PastTheEnd
             (rw (write_behind, le-ltb 4096 (length bs) i, lt-ltb 65536 (o + length bs) j))
 
-        pub write_starts_past : 65536 < o → Comes (came_to v l (write k o bs)) l PastTheEnd l
+        pub write_starts_past : 65536 < o → Comes (came_to v l (write k o bs)) l (Err PastTheEnd) l
         write_starts_past j = write_ends_past (omega arith)
 
         module _ (j : o + length bs ≤ 65536) where
-          pub write_none : length bs ≡ 0 → Comes (came_to v l (write k o bs)) l (Number 0) l
+          pub write_none : length bs ≡ 0 → Comes (came_to v l (write k o bs)) l (Ok 0) l
           unfolding groups action action_groups write_action store_list
           write_none z =
               comes_none (came_to v l (write k o bs)) l
@@ -142,31 +146,31 @@ module _ (v l : List ℕ) (k o : ℕ) (bs : List ℕ) where
             write_taken : 64 * c ≡ length (take (64 * c) ds)
             write_taken = written_taken (word v) t o bs i c x ds w
 
-            pub write_ready : f ≡ o / 512 → Ready v marks d [] (take (64 * c) ds) l
-            write_ready first =
+            pub write_ready : f < 4294967296 → Ready v marks d [] (take (64 * c) ds) l
+            write_ready low =
                 let n = write_taken in
-                file_ready v l h k s marks t (a.state s e) f z d q [] (take (64 * c) ds) (omega arith) (omega arith) (omega arith) (omega arith) (omega arith)
+                file_ready v l h k s marks t a.state f z d q [] (take (64 * c) ds) (omega arith) (omega arith) (omega arith) (omega arith) (omega arith)
 
             write_is : came_to v l (write k o bs) ≡ outcome v (plain true (written ∷ []) no_words [])
             unfolding groups action action_groups write_action outcome action_checks
             write_is =
                 write_behind
-                ∙ rw (le-ltb 4096 (length bs) i, le-ltb 65536 (o + length bs) j, ne_eqb (length bs) 0 y, closed_view (word v) (a.state s e).closed)
+                ∙ rw (le-ltb 4096 (length bs) i, le-ltb 65536 (o + length bs) j, ne_eqb (length bs) 0 y, closed_view (word v) a.state.closed)
 
             write_at : (u : ℕ) → u < 64 * pages_covered o (o + length bs) → get_or ds u 0 ≡ written.words u
-            write_at u g = written_at (word v) t o bs i c x ds w u g ∙ write_words_lem v k s marks t (a.state s e) o bs u
+            write_at u g = written_at (word v) t o bs i c x ds w u g ∙ write_words_lem v k s marks t a.state o bs u
 
-            pub write_comes : f ≡ o / 512 → z ≡ max s (o + length bs) → (r' : Answer) (m : List ℕ)
+            pub write_comes : f ≡ o / 512 → z ≡ max s (o + length bs) → (r' : Result ℕ Refusal) (m : List ℕ)
                 → Comes (outcome v (action_of d [] (take (64 * c) ds))) l r' m → Comes (came_to v l (write k o bs)) l r' m
             unfolding write_append entries_of
             write_comes page big r' m g =
                 let n = write_taken in
                 let larger : max (file_of (view (word v)) (word v 0) (word v 1) k).size (o + length bs) ≡ z =
-                rw (← ap (λ (u : File). u.size) (a.state s e).file) (sym big) in
+                rw (← ap (λ (u : File). u.size) a.state.file) (sym big) in
                 comes_as (came_to v l (write k o bs)) (outcome v (action_of d [] (take (64 * c) ds))) l r' m
                 (write_is
                 ∙ rw larger
-                (file_outcome v l h k s marks t (a.state s e) (o / 512) z d (rw page at q) [] (take (64 * c) ds) [] (pages_covered o (o + length bs))
+                (file_outcome v l h k s marks t a.state (o / 512) z d (rw page at q) [] (take (64 * c) ds) [] (pages_covered o (o + length bs))
                 written.words refl (omega arith) (rw x (taken (64 * pages_covered o (o + length bs)) ds written.words write_at)))) g
 
 size_long : (z : ℕ) → length (size_words z) ≡ 8
@@ -187,25 +191,26 @@ module _ (v l : List ℕ) (k z : ℕ) where
   unfolding checks action action_checks size_action file_checks
   size_own = refl
 
-  pub size_short : length l < 4096 → Comes (came_to v l (set_size k z)) l ShortMemory l
+  pub size_short : length l < 4096 → Comes (came_to v l (set_size k z)) l (Err ShortMemory) l
   size_short h = short v l (set_size k z) refl k size_rest size_own h
 
-  module _ (h : 4096 ≤ length l) (r : Answer) (marks t : List ℕ) (a : Stated v k r marks t) where
-    pub size_refused : NoNumber r → Comes (came_to v l (set_size k z)) l r l
-    size_refused n = state_refused v l (set_size k z) refl k size_rest size_own h r marks t a n
+  module _ (h : 4096 ≤ length l) (marks t : List ℕ) where
+    pub size_refused : (e : Refusal) (r : Result ℕ Refusal) → IsErrAnd r (λ d. d ≡ e) → Stated v k (Err e) marks t
+        → Comes (came_to v l (set_size k z)) l r l
+    size_refused e r p a = state_refused v l (set_size k z) refl k size_rest size_own h marks t e r p a
 
-    module _ (s : ℕ) (e : r ≡ Number s) where
+    module _ (s : ℕ) (a : Stated v k (Ok s) marks t) where
       size_behind : came_to v l (set_size k z) ≡ first_refusal size_rest (done (filled_words v (set_size k z)))
-      size_behind = behind v l (set_size k z) refl k size_rest size_own h r marks t a s e
+      size_behind = behind v l (set_size k z) refl k size_rest size_own h marks t s a
 
       old_size : (file_of (view (word v)) (word v 0) (word v 1) k).size ≡ s
-      old_size = sym (ap (λ (u : File). u.size) (a.state s e).file)
+      old_size = sym (ap (λ (u : File). u.size) a.state.file)
 
-      pub size_past : 65536 < z → Comes (came_to v l (set_size k z)) l PastTheEnd l
-      size_past i = comes_refused (came_to v l (set_size k z)) l PastTheEnd past_the_end refl (rw (size_behind, lt-ltb 65536 z i))
+      pub size_past : 65536 < z → Comes (came_to v l (set_size k z)) l (Err PastTheEnd) l
+      size_past i = comes_refused (came_to v l (set_size k z)) l PastTheEnd (rw (size_behind, lt-ltb 65536 z i))
 
       module _ (i : z ≤ 65536) where
-        pub size_none : z ≡ s → Comes (came_to v l (set_size k z)) l (Number 0) l
+        pub size_none : z ≡ s → Comes (came_to v l (set_size k z)) l (Ok 0) l
         unfolding groups action action_groups size_action store_list
         size_none d = comes_none (came_to v l (set_size k z)) l (rw (size_behind, le-ltb 65536 z i, old_size, eq-eqb z s d))
 
@@ -223,21 +228,21 @@ module _ (v l : List ℕ) (k z : ℕ) where
               let m = size_taken in
               let g = one_long in
               let o = kept_few (word v) t s z n ds w in
-              file_ready v l h k s marks t (a.state s e) f z' d q es (take n ds) (omega arith) (omega arith) (omega arith) (omega arith) (omega arith)
+              file_ready v l h k s marks t a.state f z' d q es (take n ds) (omega arith) (omega arith) (omega arith) (omega arith) (omega arith)
 
           size_is_lem : came_to v l (set_size k z) ≡ outcome v (plain true (resized ∷ []) no_words [])
           unfolding groups action action_groups size_action outcome action_checks
           size_is_lem =
-              size_behind ∙ rw (le-ltb 65536 z i, old_size, ne_eqb z s y, closed_view (word v) (a.state s e).closed)
+              size_behind ∙ rw (le-ltb 65536 z i, old_size, ne_eqb z s y, closed_view (word v) a.state.closed)
 
-          pub size_comes : u ≡ z → f ≡ z / 512 → z' ≡ z → (r' : Answer) (m : List ℕ)
+          pub size_comes : u ≡ z → f ≡ z / 512 → z' ≡ z → (r' : Result ℕ Refusal) (m : List ℕ)
               → Comes (outcome v (action_of d es (take n ds))) l r' m → Comes (came_to v l (set_size k z)) l r' m
           unfolding size_append
           size_comes new page same r' m g =
               let o = size_taken in
-              let c = size_count v k s marks t (a.state s e) z n ds w in
+              let c = size_count v k s marks t a.state z n ds w in
               comes_as (came_to v l (set_size k z)) (outcome v (action_of d es (take n ds))) l r' m
               (size_is_lem
-              ∙ file_outcome v l h k s marks t (a.state s e) (z / 512) z d (rw (page, same) at q) es (take n ds) (size_words z ∷ []) resized.count
+              ∙ file_outcome v l h k s marks t a.state (z / 512) z d (rw (page, same) at q) es (take n ds) (size_words z ∷ []) resized.count
               resized.words (rw (x, size_long u, new) (one_entry (size_words z) (size_long z))) (omega arith)
-              (λ j k'. taken n ds resized.words (size_words_lem v k s marks t (a.state s e) z n ds w) j (omega arith))) g
+              (λ j k'. taken n ds resized.words (size_words_lem v k s marks t a.state z n ds w) j (omega arith))) g

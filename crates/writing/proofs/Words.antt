@@ -14,26 +14,6 @@ use Rattle.fresh.specs.Fresh.{written_over, zero_from, fresh_word}
 use Rattle.state.specs.Stated.{FileState}
 use Rattle.writing.specs.Kept.{cuts, Kept}
 
--- `cuts_page`: f is the table's entry as it was read
-module _ (t : List ℕ) (s z : ℕ) where
-  pub larger_cuts : s ≤ z → false ≡ cuts t s z
-  larger_cuts h = rw (le-ltb z s h)
-
-  module _ (h : z < s) where
-    pub between_cuts : z % 512 ≡ 0 → false ≡ cuts t s z
-    between_cuts i = rw (lt-ltb z s h, eq-eqb (z % 512) 0 i)
-
-    module _ (i : z % 512 ≡ 0 → ⊥) (f : ℕ) (e : f ≡ get_or t (z / 512) 0) where
-      pub unmapped_cuts : f ≡ 0 → false ≡ cuts t s z
-      unmapped_cuts j = rw (lt-ltb z s h, ne_eqb (z % 512) 0 i, ← e, eq-eqb f 0 j)
-
-      pub mapped_cuts : (f ≡ 0 → ⊥) → true ≡ cuts t s z
-      mapped_cuts j = rw (lt-ltb z s h, ne_eqb (z % 512) 0 i, ← e, ne_eqb f 0 j)
-
--- a size that cuts a page is smaller
-pub cuts_small : (t : List ℕ) (s z : ℕ) (b : Bool) → b ≡ cuts t s z → b ≡ true → s ≤ 65536 → z ≤ 65536
-cuts_small t s z b e h l = by_lt z s (λ g. omega arith) (λ g. no (sym (rw (h, le-ltb z s g) at e)))
-
 -- `lay_kept`: b is whether the size cuts a page, ds the array before and ds' after
 module _ (m : Mem) (t : List ℕ) (s z : ℕ) (b : Bool) (e : b ≡ cuts t s z) (ds : List ℕ) (h : length ds ≡ 64) where
   pub kept_page : b ≡ true → (ds' : List ℕ) → ds' ≡ laid ds 0 (fresh_word (zero_from m t z) z) 0 64 → Kept m t s z 64 ds'

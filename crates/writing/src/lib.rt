@@ -10,8 +10,10 @@ ghost use Rattle.answer.specs.Comes.{Fills};
 ghost use Rattle.writing.specs.Appends.{file_append};
 ghost use Rattle.writing.specs.Kept.{cuts, Kept};
 
-use answer::Answer;
+use answer::Refusal;
 use append::Append;
+use layout::Kind;
+use marks::Marks;
 
 // Answers an append to the log of inode k, which keeps the last free page. Its data, if there are any, are file pages from page `file` on
 // of a file that has this size then.
@@ -28,42 +30,44 @@ fn to_file(k: usize, file: u64, size: u64) -> Append
         moved: 0,
         other: 0,
         valid: 0,
-        kind: layout::FILE_TYPE,
+        kind: Kind::File.into(),
         keeps: true,
     }
 }
 
 // Writes bytes to a file from an offset on: fills the list with the store list. The data goes to the lowest run of free pages that is long
-// enough or, where there is none, to the lowest free pages. Answers Number with the count of words filled, 0 where there are no bytes to
-// write.
+// enough or, where there is none, to the lowest free pages. Answers the count of words filled, 0 where there are no bytes to write.
 // Refusals: ShortMemory, NoVolume, Damaged, JournalOpen, NotThere, WrongType, LongWrite, PastTheEnd, NoSpace, LastPage.
-// Example: where inode 1 is an empty file with a log page that has room for an entry, write(v, 1, 0, b"abcd", list) is Number(150), and
-// write(v, 1, 65533, b"abcd", list) is PastTheEnd.
-pub fn write(v: &[u8], inode: u64, offset: u64, bytes: &[u8], list: &mut [u64]) -> Answer
+// Example: where inode 1 is an empty file with a log page that has room for an entry, write(v, 1, 0, b"abcd", list) is Ok(150), and
+// write(v, 1, 65533, b"abcd", list) is Err(Refusal::PastTheEnd).
+pub fn write(
+    v: &[u8],
+    inode: u64,
+    offset: u64,
+    bytes: &[u8],
+    list: &mut [u64],
+) -> Result<u64, Refusal>
     ensures { Fills v.now list.old (write inode offset bytes.now) result list.new }
 {
     if list.len() < layout::LIST_WORDS {
-        return Answer::ShortMemory;
+        return Err(Refusal::ShortMemory);
     }
-    let mut marks = [0u8; 4096];
+    let mut marks = Marks::new();
     let mut table = [0u64; 128];
-    let state = state::file(v, inode, &mut marks, &mut table);
-    let Answer::Number(size) = state else {
-        return state;
-    };
+    let size = state::file(v, inode, &mut marks, &mut table)?;
     if layout::WRITE_BYTES < bytes.len() {
-        return Answer::LongWrite;
+        return Err(Refusal::LongWrite);
     }
     if layout::FILE_BYTES < offset {
-        return Answer::PastTheEnd;
+        return Err(Refusal::PastTheEnd);
     }
     let from = offset as usize;
     let end = from + bytes.len();
     if layout::FILE_BYTES < end as u64 {
-        return Answer::PastTheEnd;
+        return Err(Refusal::PastTheEnd);
     }
     if bytes.len() == 0 {
-        return Answer::Number(0);
+        return Ok(0);
     }
     let none = [0u64; 1];
     let mut data = [0u64; 576];
@@ -72,7 +76,7 @@ pub fn write(v: &[u8], inode: u64, offset: u64, bytes: &[u8], list: &mut [u64]) 
     let a = to_file(
         inode as usize,
         (from / layout::PAGE) as u64,
-        layout::larger(size, end as u64),
+        size.max(end as u64),
     );
     append::make(v, &mut marks, a, &none[..0], &data[..n], list)
 }
@@ -85,17 +89,9 @@ fn cuts_page(table: &[u64; 128], size: u64, new: u64) -> bool
     requires { size ≤ 65536 }
     ensures { result ≡ cuts table.now size new }
 {
-    if size <= new {
-        return false;
-    }
-    let to = new as usize;
-    if to % layout::PAGE == 0 {
-        return false;
-    }
-    if files::get(table, to / layout::PAGE) == 0 {
-        return false;
-    }
-    true
+    new < size
+        && new as usize % layout::PAGE != 0
+        && files::get(table, new as usize / layout::PAGE) != 0
 }
 
 // Lays the words of the page that a new size cuts into the array, if it cuts one: the file's bytes below the size, then zeros. Answers the
@@ -112,28 +108,25 @@ fn lay_kept(v: &[u8], table: &[u64; 128], size: u64, new: u64, data: &mut [u64; 
     0
 }
 
-// Sets the size of a file: fills the list with the store list. Answers Number with the count of words filled, 0 where the file has that
-// size already.
+// Sets the size of a file: fills the list with the store list. Answers the count of words filled, 0 where the file has that size already.
 // Refusals: ShortMemory, NoVolume, Damaged, JournalOpen, NotThere, WrongType, PastTheEnd, NoSpace, LastPage.
 // Example: where inode 1 is a file of 1,024 bytes on two pages and its log has a page with room for two entries, set_size(v, 1, 700, list)
-// is Number(166), set_size(v, 1, 512, list) Number(22), set_size(v, 1, 1024, list) Number(0) and set_size(v, 1, 65537, list) PastTheEnd.
-pub fn set_size(v: &[u8], inode: u64, size: u64, list: &mut [u64]) -> Answer
+// is Ok(166), set_size(v, 1, 512, list) Ok(22), set_size(v, 1, 1024, list) Ok(0) and set_size(v, 1, 65537, list)
+// Err(Refusal::PastTheEnd).
+pub fn set_size(v: &[u8], inode: u64, size: u64, list: &mut [u64]) -> Result<u64, Refusal>
     ensures { Fills v.now list.old (set_size inode size) result list.new }
 {
     if list.len() < layout::LIST_WORDS {
-        return Answer::ShortMemory;
+        return Err(Refusal::ShortMemory);
     }
-    let mut marks = [0u8; 4096];
+    let mut marks = Marks::new();
     let mut table = [0u64; 128];
-    let state = state::file(v, inode, &mut marks, &mut table);
-    let Answer::Number(old) = state else {
-        return state;
-    };
+    let old = state::file(v, inode, &mut marks, &mut table)?;
     if layout::FILE_BYTES < size {
-        return Answer::PastTheEnd;
+        return Err(Refusal::PastTheEnd);
     }
     if size == old {
-        return Answer::Number(0);
+        return Ok(0);
     }
     let mut data = [0u64; 64];
     let n = lay_kept(v, &table, old, size, &mut data);

@@ -1,4 +1,4 @@
--- The goals that want a lemma of their own.
+-- Each turn puts the words of one page; behind the last nothing is left to add.
 use Rattle.model.proofs.Prelude.{rules}
 use Rattle.append.proofs.Parts.{data_start, data_next, data_done}
 use Rattle.append.proofs.put_data.Goals as goal
@@ -9,8 +9,7 @@ loop-i-init c = search (rules, data_start)
 pub loop-i-preserved : goal.loop-i-preserved
 loop-i-preserved c = (
   search rules,
-  search rules,
-  data_next _ _ _ _ _ _ _ c.loop-i.invariant.2 _ _ _ c.loop-i-test.true (search rules) (search rules) c.put_words-e.ensures.0,
+  data_next _ _ _ _ _ _ _ c.loop-i.invariant.1 _ _ _ c.loop-i-test.true (search rules) (search rules) c.put_words-e.ensures.0,
 )
 
 pub returns : goal.returns

@@ -17,8 +17,8 @@ is_valid-requires c = search (rules, good_readable)
 pub returns-then-not-is_valid : goal.returns-then-not-is_valid
 returns-then-not-is_valid c = search (rules, create_none)
 
-pub returns-then-find_name-ne0 : goal.returns-then-find_name-ne0
-returns-then-find_name-ne0 c = search (rules, create_taken)
+pub returns-then-is_some : goal.returns-then-is_some
+returns-then-is_some c = search (rules, create_taken)
 
 pub is_directory-requires : goal.is_directory-requires
 is_directory-requires c = search (rules, good_reads, valid_below)
@@ -26,14 +26,14 @@ is_directory-requires c = search (rules, good_reads, valid_below)
 pub returns-then-not-is_directory : goal.returns-then-not-is_directory
 returns-then-not-is_directory c = search (rules, create_file)
 
-pub free_inode-inode-requires : goal.free_inode-inode-requires
-free_inode-inode-requires c = search (rules, good_readable)
+pub free_inode-requires : goal.free_inode-requires
+free_inode-requires c = search (rules, good_readable)
 
-pub returns-then-inode-eq0 : goal.returns-then-inode-eq0
-returns-then-inode-eq0 c = search (rules, create_no_inode)
+pub returns-in_err-inode : goal.returns-in_err-inode
+returns-in_err-inode c = search (rules, create_no_inode, c.in_err-inode.ensures)
 
 pub returns-then-n-ge-MOST_NAMES : goal.returns-then-n-ge-MOST_NAMES
-returns-then-n-ge-MOST_NAMES c = search (rules, create_full)
+returns-then-n-ge-MOST_NAMES c = search (rules, create_full, c.in_ok-inode.ensures)
 
 pub returns : goal.returns
-returns c = search (rules, create_is)
+returns c = search (rules, create_is, c.in_ok-inode.ensures)

@@ -2,7 +2,7 @@
 use Rattle.model.proofs.Prelude.{ap, not, rules}
 use Rattle.names.proofs.Listing.{good_long, good_readable, good_reads, turned_long}
 use Rattle.checks.proofs.Volumes.{valid_below, lists_long}
-use Rattle.checks.proofs.Cases.{find_bad, find_none, find_file, find_absent, find_is}
+use Rattle.checks.proofs.Cases.{find_bad, find_none, find_file, find_last}
 use Rattle.checks.proofs.find_checks.Goals as goal
 
 pub returns-then-not-is_name : goal.returns-then-not-is_name
@@ -24,8 +24,5 @@ is_directory-requires c =
 pub returns-then-not-is_directory : goal.returns-then-not-is_directory
 returns-then-not-is_directory c = search (rules, find_file, lists_long)
 
-pub returns-then-inode-eq0 : goal.returns-then-inode-eq0
-returns-then-inode-eq0 c = search (rules, find_absent, turned_long)
-
 pub returns : goal.returns
-returns c = search (rules, find_is, turned_long)
+returns c = search (rules, find_last, turned_long)

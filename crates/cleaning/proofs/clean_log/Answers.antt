@@ -13,9 +13,9 @@ pub returns-then-word_at-eq0 : goal.returns-then-word_at-eq0
 returns-then-word_at-eq0 c = search clean_empty
 
 pub make-requires : goal.make-requires
-make-requires c = anew_ready _ _ _ _ _ _ c.requires.0 c.requires.1 _ refl _ _ c.clean_entries-n.ensures.1
+make-requires c = anew_ready _ _ _ _ _ _ c.requires.0 c.requires.1 _ (rw c.into.ensures refl) _ _ c.clean_entries-n.ensures.1
 
 pub returns : goal.returns
 returns c =
     anew_comes _ _ _ _ _ _ c.requires.0 c.requires.1 _ _ c.tail_word.ensures c.word_at.ensures c.if-word_at-eq0.false
-    _ _ _ c.clean_entries-n.ensures.0 c.clean_entries-n.ensures.1 (search rules) _ refl _ _ c.make.ensures
+    _ _ _ c.clean_entries-n.ensures.0 c.clean_entries-n.ensures.1 (search rules) _ (rw c.into.ensures refl) _ _ c.make.ensures

@@ -1,13 +1,13 @@
--- The goals that want a lemma of their own.
+-- Each turn puts the old value of one position back; when none is left, all are back.
 use Rattle.model.proofs.Prelude.{rules}
 use Rattle.cleaning.proofs.Back.{back_start, back_next, back_done}
 use Rattle.cleaning.proofs.put_back.Goals as goal
 
-pub loop-left-init : goal.loop-left-init
-loop-left-init c = search (rules, back_start)
+pub loop-init : goal.loop-init
+loop-init c = search (rules, back_start)
 
-pub loop-left-preserved : goal.loop-left-preserved
-loop-left-preserved c = search (rules, back_next)
+pub loop-preserved : goal.loop-preserved
+loop-preserved c = search (rules, back_next)
 
 pub returns : goal.returns
 returns c = search (rules, back_done)

@@ -1,10 +1,16 @@
--- The goals that want a lemma of their own.
+-- A turn logs the next word to commit; at the end none is left.
 use Rattle.model.proofs.Prelude.{rules}
-use Rattle.commit.proofs.Commits.{log_next, log_done}
+use Rattle.commit.proofs.Commits.{log_start, log_next, log_done, pair_inside}
 use Rattle.commit.proofs.log_targets.Goals as goal
 
-pub loop-j-preserved : goal.loop-j-preserved
-loop-j-preserved c = search (rules, log_next)
+pub loop-t-init : goal.loop-t-init
+loop-t-init c = search (rules, log_start)
+
+pub log_target-e-requires : goal.log_target-e-requires
+log_target-e-requires c = search (rules, pair_inside)
+
+pub loop-t-preserved : goal.loop-t-preserved
+loop-t-preserved c = search (rules, log_next)
 
 pub returns : goal.returns
 returns c = search (rules, log_done)

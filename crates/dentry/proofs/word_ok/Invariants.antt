@@ -1,10 +1,7 @@
 -- The invariant: the bytes that are left are the rest of the name and zeros if and only if all are the name and zeros.
-use Rattle.model.proofs.Prelude.{◌≡◌}
+use Rattle.model.proofs.Prelude.{◌≡◌, ◌-◌}
 use Rattle.dentry.specs.Fields.{word_ok}
 use Rattle.dentry.proofs.word_ok.Given as goal
 
-abbrev pub invariant-loop-left : goal.invariant-loop-left
-invariant-loop-left l = word_ok l.left l.x ≡ word_ok l.n l.word
-
-abbrev pub decreases-loop-left : goal.decreases-loop-left
-decreases-loop-left l = l.left
+abbrev pub invariant-loop : goal.invariant-loop
+invariant-loop l = word_ok (l.n - l.counter) l.x ≡ word_ok l.n l.word

@@ -1,18 +1,10 @@
--- Each answer is one kind of an entry.
-use Rattle.directory.proofs.Indexing.{stands_write, stands_size, stands_add, stands_remove, stands_none}
+-- Only an add can stand; of one the index decides.
+use Rattle.model.specs.Words.{word}
+use Rattle.directory.proofs.Indexing.{stands_add, stands_other}
 use Rattle.directory.proofs.stands.Goals as goal
-
-pub returns-in-Write : goal.returns-in-Write
-returns-in-Write c = search stands_write
-
-pub returns-in-SetSize : goal.returns-in-SetSize
-returns-in-SetSize c = search stands_size
 
 pub returns-in-Add : goal.returns-in-Add
 returns-in-Add c = search stands_add
 
-pub returns-in-Remove : goal.returns-in-Remove
-returns-in-Remove c = search stands_remove
-
-pub returns-in-None : goal.returns-in-None
-returns-in-None c = search stands_none
+pub returns-in_default : goal.returns-in_default
+returns-in_default c = stands_other (word c.args.v.now) 0 _ _ c.args.e c.in_default.not-Add

@@ -1,4 +1,4 @@
--- The goals that want a lemma of their own.
+-- A turn puts the entry of the next name.
 use Rattle.model.proofs.Prelude.{rules}
 use Rattle.lookup.proofs.Places.{here_in, here_field}
 use Rattle.entries.proofs.Entries.{filling_none}

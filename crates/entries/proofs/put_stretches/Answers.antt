@@ -1,4 +1,4 @@
--- The goals that want a lemma of their own.
+-- A turn passes an unmapped page, or puts the entry of the stretch that begins there.
 use Rattle.model.proofs.Prelude.{rules}
 use Rattle.entries.proofs.Entries.{filling_none, filling_same, filling_next, filling_end}
 use Rattle.entries.proofs.Stretches.{left_same, left_next, left_none, left_all}

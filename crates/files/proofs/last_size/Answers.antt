@@ -7,8 +7,8 @@ use Rattle.files.proofs.last_size.Goals as goal
 pub log_of-log-requires : goal.log_of-log-requires
 log_of-log-requires c = (search, search inode_in_lem, search log_ends)
 
-pub returns-then-end-eq0 : goal.returns-then-end-eq0
-returns-then-end-eq0 c = search nothing_written
+pub returns-then-log-eq0 : goal.returns-then-log-eq0
+returns-then-log-eq0 c = search nothing_written
 
 pub log_step-s-requires : goal.log_step-s-requires
 log_step-s-requires c = (search last_here, search last_there, search last_low)

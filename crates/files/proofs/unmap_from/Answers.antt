@@ -1,10 +1,7 @@
--- The goals that want a lemma of their own.
+-- By elements: a zero from the file page on, and the table's element before it.
 use Rattle.model.proofs.Prelude.{rules}
-use Rattle.files.proofs.Runs.{fill_turn, fill_end}
+use Rattle.files.proofs.Runs.{zeros_over}
 use Rattle.files.proofs.unmap_from.Goals as goal
 
-pub loop-left-preserved : goal.loop-left-preserved
-loop-left-preserved c = search (rules, fill_turn)
-
 pub returns : goal.returns
-returns c = search (rules, fill_end)
+returns c = search (rules, zeros_over)

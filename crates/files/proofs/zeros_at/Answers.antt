@@ -3,11 +3,10 @@ use Rattle.model.proofs.Prelude.{arith}
 use Rattle.files.proofs.Ends.{words_not, words_then}
 use Rattle.files.proofs.zeros_at.Goals as goal
 
-pub returns-then-not-zero_words : goal.returns-then-not-zero_words
-returns-then-not-zero_words c =
-    words_not _ (λ j. omega (arith, c.type_inv.v j)) _ _ (search) _ c.zero_words.ensures (search)
+pub returns-then-zero_words : goal.returns-then-zero_words
+returns-then-zero_words c =
+    words_then _ (λ j. omega (arith, c.type_inv.v j)) _ _ (search) _ c.zero_words.ensures _ (search) (search)
 
-pub returns : goal.returns
-returns c =
-    words_then _ (λ j. omega (arith, c.type_inv.v j)) _ _ (search) _
-    c.zero_words.ensures _ (search) (search)
+pub returns-else-zero_words : goal.returns-else-zero_words
+returns-else-zero_words c =
+    words_not _ (λ j. omega (arith, c.type_inv.v j)) _ _ (search) _ c.zero_words.ensures (search)

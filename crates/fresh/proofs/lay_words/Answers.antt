@@ -1,10 +1,10 @@
--- The goals that want a lemma of their own.
-use Rattle.model.proofs.Prelude.{rules}
-use Rattle.contents.proofs.Laying.{laid_put, laid_end}
+-- A turn lays the next word.
+use Rattle.model.proofs.Prelude.{refl, arith}
+use Rattle.contents.proofs.Laying.{laid_next, laid_end}
 use Rattle.fresh.proofs.lay_words.Goals as goal
 
-pub loop-left-preserved : goal.loop-left-preserved
-loop-left-preserved c = search (rules, laid_put)
+pub loop-j-preserved : goal.loop-j-preserved
+loop-j-preserved c = rw c.word_at.ensures (laid_next _ _ _ _ _ _ _ c.loop-j.invariant (omega arith) refl)
 
 pub returns : goal.returns
-returns c = search (rules, laid_end)
+returns c = laid_end _ _ _ _ _ _ c.loop-j.invariant (omega arith)

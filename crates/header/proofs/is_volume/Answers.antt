@@ -6,8 +6,8 @@ use Rattle.header.proofs.is_volume.Goals as goal
 pub returns-then-v-lt-HEADER_BYTES : goal.returns-then-v-lt-HEADER_BYTES
 returns-then-v-lt-HEADER_BYTES c = search (rules, too_short)
 
-pub returns-then-not-sizes_fit : goal.returns-then-not-sizes_fit
-returns-then-not-sizes_fit c = search (rules, sizes_wrong)
+pub returns-else-sizes_fit : goal.returns-else-sizes_fit
+returns-else-sizes_fit c = search (rules, sizes_wrong)
 
-pub returns : goal.returns
-returns c = search (rules, kind_decides)
+pub returns-then-sizes_fit : goal.returns-then-sizes_fit
+returns-then-sizes_fit c = search (rules, kind_decides)

@@ -1,12 +1,11 @@
--- Each answer is one case of the definition: the name is there, it is not and is not added, or it is added.
+-- Each answer is one case of the definition: the name is not there and is not added, it is added, or it is there.
 use Rattle.index.proofs.Looks.{note_known, note_absent, note_new}
 use Rattle.index.proofs.note.Goals as goal
-
-pub returns-then-slot-ne0 : goal.returns-then-slot-ne0
-returns-then-slot-ne0 c = search note_known
+use Rattle.index.proofs.note.Goals.{else-new-via-then-new+else-not-adds, else-new-via-else-new}
 
 pub returns-then-not-adds : goal.returns-then-not-adds
 returns-then-not-adds c = search note_absent
 
 pub returns : goal.returns
-returns c = search note_new
+returns c =
+    elim c.else-new.branch [ else-new-via-then-new+else-not-adds w ↦ search note_new | else-new-via-else-new w ↦ search note_known ]

@@ -6,14 +6,14 @@ use Rattle.inode_log.proofs.log_of.Goals as goal
 pub returns-then-tail-eq0 : goal.returns-then-tail-eq0
 returns-then-tail-eq0 c = search (rules, log_none)
 
-pub overflow_cast-result-2 : goal.overflow_cast-result-2
-overflow_cast-result-2 c = search (rules, head_low)
+pub overflow_cast-result : goal.overflow_cast-result
+overflow_cast-result c = search (rules, head_low)
 
 pub overflow_mul-result : goal.overflow_mul-result
 overflow_mul-result c = search (rules, start_low)
 
-pub overflow_cast-result-3 : goal.overflow_cast-result-3
-overflow_cast-result-3 c = search (rules, end_low)
+pub overflow_cast-result-2 : goal.overflow_cast-result-2
+overflow_cast-result-2 c = search (rules, end_low)
 
 pub returns : goal.returns
 returns c = search (rules, log_some)

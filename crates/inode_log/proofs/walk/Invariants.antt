@@ -6,11 +6,8 @@ use Rattle.model.specs.Log.{walk}
 use Rattle.inode_log.proofs.Marking.{Onward}
 use Rattle.inode_log.proofs.walk.Given as goal
 
-abbrev pub invariant-loop-left : goal.invariant-loop-left
-invariant-loop-left l =
-    (l.left ≤ l.pages) × (l.p ≤ l.pages - 1) × (in_pages l.pages l.inodes l.p ≡ true)
-    × Onward (walk (word l.v) l.pages l.inodes l.left l.p l.last) l.marks
-    (walk (word l.v) l.pages l.inodes l.pages l.head l.last) l.initial.marks
-
-abbrev pub decreases-loop-left : goal.decreases-loop-left
-decreases-loop-left l = l.left
+abbrev pub invariant-loop-turn : goal.invariant-loop-turn
+invariant-loop-turn l =
+    (l.p ≤ l.sizes.pages - 1) × (in_pages l.sizes.pages l.sizes.inodes l.p ≡ true)
+    × Onward (walk (word l.v) l.sizes.pages l.sizes.inodes (l.sizes.pages - l._turn) l.p l.last) l.marks
+    (walk (word l.v) l.sizes.pages l.sizes.inodes l.sizes.pages l.head l.last) l.initial.marks

@@ -1,22 +1,29 @@
 -- Each answer is one case of the definition, by the valid word and the type.
-use Rattle.model.proofs.Prelude.{rules}
+use Rattle.model.proofs.Prelude.{arith, rules}
 use Rattle.inodes.proofs.Cases.{inode_free, inode_bad, type_file, inode_file, inode_folder, inode_strange}
 use Rattle.inodes.proofs.judge_inode.Goals as goal
-
-pub returns-then-valid-eq0 : goal.returns-then-valid-eq0
-returns-then-valid-eq0 c = search (rules, inode_free)
-
-pub returns-then-valid-ne1 : goal.returns-then-valid-ne1
-returns-then-valid-ne1 c = search (rules, inode_bad)
 
 pub file_state-requires : goal.file_state-requires
 file_state-requires c = search (rules, type_file)
 
-pub returns-then-kind-eq-FILE_TYPE : goal.returns-then-kind-eq-FILE_TYPE
-returns-then-kind-eq-FILE_TYPE c = search (rules, inode_file)
+pub returns-in-0 : goal.returns-in-0
+returns-in-0 c = inode_free _ _ _ _ _ _ c.requires.1 c.valid_word.ensures c.viewed.ensures _ c.in-0.is
 
-pub returns-then-kind-eq-FOLDER_TYPE : goal.returns-then-kind-eq-FOLDER_TYPE
-returns-then-kind-eq-FOLDER_TYPE c = search (rules, inode_folder)
+pub returns-in-Ok-File : goal.returns-in-Ok-File
+returns-in-Ok-File c =
+    inode_file _ _ _ _ _ _ c.requires.1 c.valid_word.ensures c.viewed.ensures c.in-1.is _ _ (c.requires.0).journal c.type_word.ensures
+    c.word_at.ensures _ c.in-Ok-File.ensures _ _ _ c.in-Ok-File.field-0-is c.file_state.ensures
 
-pub returns : goal.returns
-returns c = search (rules, inode_strange)
+pub returns-in-Ok-Folder : goal.returns-in-Ok-Folder
+returns-in-Ok-Folder c =
+    inode_folder _ _ _ _ _ _ c.requires.1 c.valid_word.ensures c.viewed.ensures c.in-1.is _ _ (c.requires.0).journal c.type_word.ensures
+    c.word_at.ensures _ c.in-Ok-Folder.ensures _ _ _ c.in-Ok-Folder.field-0-is c.folder_state.ensures
+
+pub returns-in-Err : goal.returns-in-Err
+returns-in-Err c =
+    inode_strange _ _ _ _ _ _ c.requires.1 c.valid_word.ensures c.viewed.ensures c.in-1.is _ _ (c.requires.0).journal c.type_word.ensures
+    c.word_at.ensures _ c.in-Err.ensures.1
+
+pub returns-in_default : goal.returns-in_default
+returns-in_default c =
+    inode_bad _ _ _ _ _ _ c.requires.1 c.valid_word.ensures c.viewed.ensures _ (omega arith) (omega arith)

@@ -1,5 +1,5 @@
 -- The loop's invariant: the inodes below k are good, the marks are those of their pages, and the table has their states.
-use Rattle.model.proofs.Prelude.{◌-◌, ◌≤◌, ◌<◌}
+use Rattle.model.proofs.Prelude.{◌<◌}
 use Rattle.model.specs.Words.{word}
 use Rattle.model.specs.Journal.{view}
 use Rattle.inodes.specs.Judged.{Below, States}
@@ -7,7 +7,4 @@ use Rattle.inodes.proofs.judge_others.Given as goal
 
 abbrev pub invariant-loop-k : goal.invariant-loop-k
 invariant-loop-k l =
-    (0 < l.k) × (l.k ≤ l.inodes) × Below (view (word l.v)) l.pages l.inodes l.k l.marks × States (view (word l.v)) l.k l.tree
-
-abbrev pub decreases-loop-k : goal.decreases-loop-k
-decreases-loop-k l = l.inodes - l.k
+    (0 < l.k) × Below (view (word l.v)) l.sizes.pages l.sizes.inodes l.k l.marks × States (view (word l.v)) l.k l.tree

@@ -1,12 +1,10 @@
 -- The loop's invariant: t stands among the targets that are left if and only if it stands among all.
-use Rattle.model.proofs.Prelude.{◌<◌, ◌≡◌}
+use Rattle.model.proofs.Prelude.{◌-◌, ◌<◌, ◌≡◌}
 use Rattle.model.specs.Words.{word}
 use Rattle.model.specs.Lists.{has}
 use Rattle.journal.specs.Targets.{targets}
 use Rattle.journal.proofs.has_target.Given as goal
 
-abbrev pub invariant-loop-left : goal.invariant-loop-left
-invariant-loop-left l = (l.p.at < 16) × (has l.t (targets (word l.v) l.left l.p.at) ≡ has l.t (targets (word l.v) l.count l.initial.p.at))
-
-abbrev pub decreases-loop-left : goal.decreases-loop-left
-decreases-loop-left l = l.left
+abbrev pub invariant-loop : goal.invariant-loop
+invariant-loop l =
+    (l.p.at < 16) × (has l.t (targets (word l.v) (l.count - l.counter) l.p.at) ≡ has l.t (targets (word l.v) l.count l.initial.p.at))

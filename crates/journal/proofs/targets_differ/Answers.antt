@@ -1,4 +1,4 @@
--- The goals that want a lemma of their own.
+-- The position's target stands among those after it, or not, and then these decide; no targets differ.
 use Rattle.model.proofs.Prelude.{rules}
 use Rattle.journal.proofs.Turns.{distinct_start, distinct_not, distinct_next, distinct_end}
 use Rattle.journal.proofs.targets_differ.Goals as goal

@@ -8,6 +8,3 @@ use Rattle.journal.proofs.targets_differ.Given as goal
 
 abbrev pub invariant-loop-left : goal.invariant-loop-left
 invariant-loop-left l = (l.p.at < 16) × (distinct (targets (word l.v) l.left l.p.at) ≡ distinct (open_targets (word l.v)))
-
-abbrev pub decreases-loop-left : goal.decreases-loop-left
-decreases-loop-left l = l.left

@@ -1,14 +1,12 @@
 -- The loop's invariant: the targets that are left are all good if and only if all are.
-use Rattle.model.proofs.Prelude.{◌<◌, ◌≡◌}
+use Rattle.model.proofs.Prelude.{◌-◌, ◌<◌, ◌≡◌}
 use Rattle.model.specs.Words.{word}
 use Rattle.model.specs.Lists.{all}
 use Rattle.model.specs.Journal.{open_targets, target_ok}
 use Rattle.journal.specs.Targets.{targets}
 use Rattle.journal.proofs.targets_ok.Given as goal
 
-abbrev pub invariant-loop-left : goal.invariant-loop-left
-invariant-loop-left l =
-    (l.p.at < 16) × (all (target_ok l.inodes) (targets (word l.v) l.left l.p.at) ≡ all (target_ok l.inodes) (open_targets (word l.v)))
-
-abbrev pub decreases-loop-left : goal.decreases-loop-left
-decreases-loop-left l = l.left
+abbrev pub invariant-loop : goal.invariant-loop
+invariant-loop l =
+    (l.p.at < 16)
+    × (all (target_ok l.inodes) (targets (word l.v) (l.end - l.counter) l.p.at) ≡ all (target_ok l.inodes) (open_targets (word l.v)))

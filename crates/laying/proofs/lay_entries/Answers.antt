@@ -1,4 +1,4 @@
--- The goals that want a lemma of their own.
+-- Each turn lays one entry: a page for it is turned to first, and its eight words are put there.
 use Rattle.model.proofs.Prelude.{rules}
 use Rattle.laying.proofs.Steps.{going_start, going_one, going_next, going_done}
 use Rattle.laying.proofs.lay_entries.Goals as goal
@@ -13,9 +13,8 @@ pub loop-i-preserved : goal.loop-i-preserved
 loop-i-preserved c = (
   search rules,
   search rules,
-  search rules,
-  going_next _ _ _ _ _ _ _ _ c.loop-i.invariant.3 (search rules) _ _ c.turn_page-t.ensures _ _ c.put_words-end.ensures.0,
+  going_next _ _ _ _ _ _ _ _ c.loop-i.invariant.2 (search rules) _ _ c.turn_page-t.ensures _ _ c.put_words-end.ensures.0,
 )
 
 pub returns : goal.returns
-returns c = going_done _ _ _ _ _ _ _ _ c.loop-i.invariant.3 (search rules) (search rules)
+returns c = going_done _ _ _ _ _ _ _ _ c.loop-i.invariant.2 (search rules) (search rules)

@@ -1,12 +1,9 @@
 -- The loop's invariant: the entries from the i-th on are left to be laid.
-use Rattle.model.proofs.Prelude.{◌+◌, ◌*◌, ◌-◌, ◌≤◌, ◌≡◌, length}
+use Rattle.model.proofs.Prelude.{◌+◌, ◌*◌, ◌-◌, ◌/◌, ◌≤◌, ◌≡◌, length}
 use Rattle.laying.proofs.Steps.{Going}
 use Rattle.laying.proofs.lay_entries.Given as goal
 
 abbrev pub invariant-loop-i : goal.invariant-loop-i
 invariant-loop-i l =
-    (l.i ≤ l.n) × (l.h.end + 18 * (l.n - l.i) ≤ l.initial.h.end + 18 * l.n) × (length l.list ≡ length l.initial.list)
+    (l.h.end + 18 * (length l.entries / 8 - l.i) ≤ l.initial.h.end + 18 * (length l.entries / 8)) × (length l.list ≡ length l.initial.list)
     × Going l.marks l.sizes l.initial.list l.initial.h l.entries l.list l.h l.i
-
-abbrev pub decreases-loop-i : goal.decreases-loop-i
-decreases-loop-i l = l.n - l.i

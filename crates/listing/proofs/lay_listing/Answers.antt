@@ -1,7 +1,8 @@
 -- A refusal is put as its line, by the length or by the gate; else the text is put. Every listing has room.
 use Rattle.model.proofs.Prelude.{rules}
+use Rattle.gate.proofs.Gates.{gate_good}
 use Rattle.listing.proofs.Fits.{refusal_room}
-use Rattle.listing.proofs.Text.{long_put, refused_put, gate_good, gate_lists, gate_served, passed_put, listed}
+use Rattle.listing.proofs.Text.{long_put, refused_put, passed_put, listed}
 use Rattle.listing.proofs.lay_listing.Goals as goal
 
 pub put_refusal-requires : goal.put_refusal-requires
@@ -10,14 +11,14 @@ put_refusal-requires c = search (rules, refusal_room)
 pub returns-then-v-gt-MOST_BYTES : goal.returns-then-v-gt-MOST_BYTES
 returns-then-v-gt-MOST_BYTES c = listed _ _ _ _ (search rules) search (rules, long_put)
 
-pub put_refusal-requires-in_default : goal.put_refusal-requires-in_default
-put_refusal-requires-in_default c = search (rules, refusal_room)
-
-pub returns-in_default : goal.returns-in_default
-returns-in_default c = listed _ _ _ _ (search rules) search (rules, refused_put)
-
 pub put_text-requires : goal.put_text-requires
-put_text-requires c = (search gate_good, search gate_lists, search gate_served)
+put_text-requires c = search (gate_good, c.in-Ok.ensures)
 
-pub returns : goal.returns
-returns c = listed _ _ _ _ (search rules) search (rules, passed_put)
+pub put_refusal-requires-in-Err : goal.put_refusal-requires-in-Err
+put_refusal-requires-in-Err c = search (rules, refusal_room)
+
+pub returns-in-Ok : goal.returns-in-Ok
+returns-in-Ok c = listed _ _ _ _ (search rules) search (rules, passed_put, c.in-Ok.ensures)
+
+pub returns-in-Err : goal.returns-in-Err
+returns-in-Err c = listed _ _ _ _ (search rules) search (rules, refused_put, c.in-Err.ensures)

@@ -2,7 +2,7 @@
 use Rattle.model.proofs.Prelude.{rules}
 use Rattle.listing.proofs.Fits.{first_room}
 use Rattle.names.proofs.Listing.{good_long}
-use Rattle.listing.proofs.Text.{text_pages, text_filled, text_inodes, lines_room, text_put}
+use Rattle.listing.proofs.Text.{text_pages, text_places, text_inodes, lines_room, text_put}
 use Rattle.listing.proofs.put_text.Goals as goal
 
 pub of-sizes-requires : goal.of-sizes-requires
@@ -15,7 +15,7 @@ pub put_first-at-requires : goal.put_first-at-requires
 put_first-at-requires c = search (rules, first_room)
 
 pub put_files-requires : goal.put_files-requires
-put_files-requires c = (search, search, search text_filled, search text_inodes, search (rules, lines_room))
+put_files-requires c = (search, search, search text_places, search text_inodes, search (rules, lines_room))
 
 pub returns : goal.returns
 returns c = search (rules, text_put)

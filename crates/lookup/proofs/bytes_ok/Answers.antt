@@ -1,16 +1,12 @@
--- The goals that want a lemma of their own.
-use Rattle.model.proofs.Prelude.{rules}
-use Rattle.lookup.proofs.Bytes.{byte_zero, byte_slash, byte_next, bytes_end}
+-- What `all` answers is std's word for it, and that is the definition's.
+use Rattle.std.proofs.Common.{sym, ◌∙◌, rules, tests}
+use Rattle.std.proofs.lemmas.Iterator.{YieldsList-from_slice}
+use Rattle.std.proofs.lemmas.Iterator.Search.{all_from_yields_List}
+use Rattle.model.specs.Entry.{name_byte_ok}
+use Rattle.lookup.proofs.Bytes.{all_bytes}
 use Rattle.lookup.proofs.bytes_ok.Goals as goal
 
-pub returns-then-x-eq0 : goal.returns-then-x-eq0
-returns-then-x-eq0 c = search (rules, byte_zero)
-
-pub returns-then-x-eq47 : goal.returns-then-x-eq47
-returns-then-x-eq47 c = search (rules, byte_slash)
-
-pub loop-i-preserved : goal.loop-i-preserved
-loop-i-preserved c = search (rules, byte_next)
-
 pub returns : goal.returns
-returns c = search (rules, bytes_end)
+returns c =
+    let n = c.args.name.now in
+    all_from_yields_List name_byte_ok _ _ _ c.all.ensures.ran (YieldsList-from_slice n cc) (λ x b q k. search (rules, tests)) ∙ sym (all_bytes n)

@@ -1,19 +1,19 @@
--- The goals that want a lemma of their own.
-use Rattle.model.proofs.Prelude.{rules}
-use Rattle.lookup.proofs.Places.{here_in, here_field, found, find_next, find_end}
+-- A turn looks at one place: it has the name, or the places behind it decide.
+use Rattle.model.proofs.Prelude.{arith}
+use Rattle.lookup.proofs.Places.{next_in, next_field, found, find_next, find_end}
 use Rattle.lookup.proofs.find_name.Goals as goal
 
 pub has_name-requires : goal.has_name-requires
-has_name-requires c = search (rules, here_in, here_field)
+has_name-requires c = (search (arith, next_in), search (arith, next_field))
 
-pub inode_at-requires : goal.inode_at-requires
-inode_at-requires c = search (rules, here_in)
+pub inode_at-inode-requires : goal.inode_at-inode-requires
+inode_at-inode-requires c = (search (arith, next_in), search arith)
 
 pub returns-then-has_name : goal.returns-then-has_name
-returns-then-has_name c = search (rules, found)
+returns-then-has_name c = search (arith, found)
 
-pub loop-i-preserved : goal.loop-i-preserved
-loop-i-preserved c = search (rules, find_next)
+pub loop-p-preserved : goal.loop-p-preserved
+loop-p-preserved c = search (arith, find_next)
 
 pub returns : goal.returns
-returns c = search (rules, find_end)
+returns c = search (arith, find_end)

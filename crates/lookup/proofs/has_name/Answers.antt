@@ -1,10 +1,9 @@
--- A name of another length is another name; a name of the same length is the same exactly if its bytes are.
-use Rattle.model.proofs.Prelude.{rules}
-use Rattle.lookup.proofs.Fields.{named_not, named_if}
+-- The bytes that the entry has for its name are the name's.
+use Rattle.model.proofs.Prelude.{ℕ, ◌<◌, get_or, arith}
+use Rattle.lookup.proofs.Fields.{named}
 use Rattle.lookup.proofs.has_name.Goals as goal
 
-pub returns-then-n-name : goal.returns-then-n-name
-returns-then-n-name c = search (rules, named_if)
-
-pub returns-else-n-name : goal.returns-else-n-name
-returns-else-n-name c = search (rules, named_not)
+pub returns : goal.returns
+returns c =
+    let bytes : (i : ℕ) → get_or c.args.v.now i 0 < 256 = λ i. omega (arith, c.type_inv.v i) in
+    search (arith, named)

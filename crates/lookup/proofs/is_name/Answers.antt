@@ -1,16 +1,13 @@
--- Each answer is one case of the definition's tests.
+-- The definition's tests in the code's order.
+use Rattle.model.proofs.Prelude.{arith}
+use Rattle.std.proofs.lemmas.Bool.Decides.{nat_tests}
 use Rattle.model.specs.Entry.{name_ok}
-use Rattle.words.proofs.Cond.{ands}
 use Rattle.lookup.proofs.is_name.Goals as goal
 
-pub returns-then-name-lt1 : goal.returns-then-name-lt1
+pub returns-then-name-le-NAME_BYTES : goal.returns-then-name-le-NAME_BYTES
 unfolding name_ok
-returns-then-name-lt1 c = search ands
+returns-then-name-le-NAME_BYTES c = grind (arith, nat_tests)
 
-pub returns-then-name-gt-NAME_BYTES : goal.returns-then-name-gt-NAME_BYTES
+pub returns-else-name-le-NAME_BYTES : goal.returns-else-name-le-NAME_BYTES
 unfolding name_ok
-returns-then-name-gt-NAME_BYTES c = search ands
-
-pub returns : goal.returns
-unfolding name_ok
-returns c = search ands
+returns-else-name-le-NAME_BYTES c = grind (arith, nat_tests)

@@ -1,4 +1,4 @@
--- The goals that want a lemma of their own.
+-- A turn is the first of the search that is left: the inode is the answer, or the search goes on behind it.
 use Rattle.model.proofs.Prelude.{rules}
 use Rattle.names.proofs.Lowest.{invalid_here, invalid_next, invalid_none}
 use Rattle.names.proofs.free_inode.Goals as goal

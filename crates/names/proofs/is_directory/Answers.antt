@@ -2,5 +2,5 @@
 use Rattle.names.proofs.Inodes.{directory_is}
 use Rattle.names.proofs.is_directory.Goals as goal
 
-pub returns : goal.returns
-returns c = search directory_is
+pub returns-else-k-eq-ROOT : goal.returns-else-k-eq-ROOT
+returns-else-k-eq-ROOT c = search directory_is

@@ -1,23 +1,23 @@
--- The goals that want a lemma of their own.
+-- A turn notes one name, and what is left of the others comes to the same.
 use Rattle.model.proofs.Prelude.{arith}
-use Rattle.directory.proofs.Table.{places_start, place_in, places_skip}
-use Rattle.names.proofs.Inodes.{below_here, below_next, note_not, note_next, note_end, table_next, table_end, none_noted}
+use Rattle.directory.proofs.Table.{next_in}
+use Rattle.names.proofs.Inodes.{inodes_start, next_below, rest_below, note_not, note_next, note_end, table_next, table_end, none_noted}
 use Rattle.names.proofs.note_names.Goals as goal
 
-pub loop-left-init : goal.loop-left-init
-loop-left-init c = search (places_start, arith)
+pub loop-p-init : goal.loop-p-init
+loop-p-init c = rw (inodes_start _ _ _ _ c.requires.0) (search)
 
 pub inode_at-k-requires : goal.inode_at-k-requires
-inode_at-k-requires c = search place_in
+inode_at-k-requires c = (search (arith, next_in), search arith)
 
 pub note-requires : goal.note-requires
-note-requires c = search (below_here, arith)
+note-requires c = (search next_below, search next_below)
 
 pub returns-then-not-note : goal.returns-then-not-note
 returns-then-not-note c = search (note_not, none_noted)
 
-pub loop-left-preserved : goal.loop-left-preserved
-loop-left-preserved c = search (places_skip, below_next, note_next, table_next, arith)
+pub loop-p-preserved : goal.loop-p-preserved
+loop-p-preserved c = search (rest_below, note_next, table_next)
 
 pub returns : goal.returns
 returns c = search (note_end, table_end)

@@ -1,44 +1,41 @@
 -- The gate and the first checks refuse as the model does; what is left is the append, with the inode that is let go.
 use Rattle.model.proofs.Prelude.{rules}
-use Rattle.naming.proofs.Calls.{gate_told, good_here, lists_here, good_low, unlink_told, unlink_below, unlink_there, unlink_i, lost_low, one_ready}
+use Rattle.naming.proofs.Calls.{gate_told, good_here, good_low, unlink_told, unlink_below, unlink_there, unlink_i, lost_low, some_inodes}
+use Rattle.naming.proofs.Calls.{one_ready}
 use Rattle.naming.proofs.Calls.{remove_long, unlink_comes}
 use Rattle.naming.proofs.unlink.Goals as goal
 
-pub returns-in_default : goal.returns-in_default
-returns-in_default c = search gate_told
+pub returns-in_err-count : goal.returns-in_err-count
+returns-in_err-count c = search (gate_told, c.in_err-count.ensures)
 
-pub unlink_checks-found-requires : goal.unlink_checks-found-requires
-unlink_checks-found-requires c =
-    let e = c.in-Number.is in let g = c.filling-gate.ensures in
-    let l = c.args.list.now in
-    let a = good_here _ l _ _ _ _ g _ e in let b = lists_here _ l _ _ _ _ g _ e in search (a, b)
+pub unlink_checks-requires : goal.unlink_checks-requires
+unlink_checks-requires c = search (good_here, c.in_ok-count.ensures)
 
-pub returns-in_default-found : goal.returns-in_default-found
-returns-in_default-found c = search unlink_told
+pub returns-in_err-inode : goal.returns-in_err-inode
+returns-in_err-inode c =
+    let g = c.in_ok-count.ensures in let l = c.args.list.now in
+    let t = unlink_told _ l _ _ _ _ g in search (t, c.in_err-inode.ensures)
 
 pub released-last-requires : goal.released-last-requires
 released-last-requires c =
-    let j = c.in-Number-found.is in let h = c.unlink_checks-found.ensures in
-    let e = c.in-Number.is in let g = c.filling-gate.ensures in
+    let h = c.in_ok-inode.ensures in let g = c.in_ok-count.ensures in
     let l = c.args.list.now in
-    let a = good_low _ l _ _ _ _ g _ e _ (unlink_below _ l _ _ _ _ g _ e _ _ _ h _ j) in search (rules, a)
+    let a = good_low _ l _ _ _ _ g _ (unlink_below _ l _ _ _ _ g _ _ _ h) in search (rules, a)
 
 pub append_entries-requires : goal.append_entries-requires
 append_entries-requires c =
     let r = c.to_folder-a.ensures in let o = c.remove_words-e.ensures in
     let z = c.released-last.ensures in
-    let j = c.in-Number-found.is in let h = c.unlink_checks-found.ensures in
-    let e = c.in-Number.is in let g = c.filling-gate.ensures in
+    let h = c.in_ok-inode.ensures in let g = c.in_ok-count.ensures in
     let l = c.args.list.now in
-    let i = unlink_i _ l _ _ _ _ g _ e _ _ _ h _ j in
-    let y = one_ready _ l _ _ _ _ g _ e _ _ _ _ _ _ r (unlink_there _ l _ _ _ _ g _ e _ _ _ h _ j) _ _ o (remove_long _)
-    (lost_low _ l _ _ _ _ g _ e _ _ _ i _ z) in search y
+    let i = unlink_i _ l _ _ _ _ g _ _ _ h in
+    let t = unlink_there _ l _ _ _ _ g _ _ _ h in
+    let y = one_ready _ l _ _ _ _ g _ _ _ _ _ _ r _ _ o (remove_long _) in
+    let a = lost_low _ l _ _ _ _ g _ _ _ i _ z in let b = some_inodes _ l _ _ _ _ g in search (y, t, a, b)
 
 pub returns : goal.returns
 returns c =
-    let a = c.append_entries.ensures in
     let r = c.to_folder-a.ensures in let o = c.remove_words-e.ensures in
     let z = c.released-last.ensures in
-    let j = c.in-Number-found.is in let h = c.unlink_checks-found.ensures in
-    let e = c.in-Number.is in let g = c.filling-gate.ensures in
-    unlink_comes _ _ _ _ _ _ g _ e _ _ _ h _ j _ z _ o _ r _ _ a
+    let h = c.in_ok-inode.ensures in let g = c.in_ok-count.ensures in
+    unlink_comes _ _ _ _ _ _ g _ _ _ h _ z _ o _ r _ _ c.append_entries.ensures

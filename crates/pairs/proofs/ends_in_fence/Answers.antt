@@ -6,5 +6,5 @@ use Rattle.pairs.proofs.ends_in_fence.Goals as goal
 pub returns-then-n-eq0 : goal.returns-then-n-eq0
 returns-then-n-eq0 c = search (rules, empty_ends)
 
-pub returns : goal.returns
-returns c = search (rules, last_ends)
+pub returns-else-n-eq0 : goal.returns-else-n-eq0
+returns-else-n-eq0 c = search (rules, last_ends)

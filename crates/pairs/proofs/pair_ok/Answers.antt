@@ -7,6 +7,6 @@ pub returns-then-index-eq-FENCE : goal.returns-then-index-eq-FENCE
 unfolding pair_ok
 returns-then-index-eq-FENCE c = search conds
 
-pub returns : goal.returns
+pub returns-else-index-eq-FENCE : goal.returns-else-index-eq-FENCE
 unfolding pair_ok
-returns c = search conds
+returns-else-index-eq-FENCE c = search conds

@@ -1,22 +1,23 @@
 -- The gate and the checks refuse as the model does; behind them the total is asked.
 use Rattle.names.proofs.Listing.{good_long}
-use Rattle.reading.proofs.Folders.{gate_good, gate_few, gate_places, total_gate, total_asked, total_is_lem}
+use Rattle.gate.proofs.Gates.{gate_good}
+use Rattle.reading.proofs.Folders.{gate_few, total_gate, total_asked, total_is_lem}
 use Rattle.reading.proofs.total.Goals as goal
 
-pub returns-in_default : goal.returns-in_default
-returns-in_default c = search total_gate
+pub returns-in_err-closed : goal.returns-in_err-closed
+returns-in_err-closed c = search (total_gate, c.in_err-closed.ensures)
 
-pub folder_checks-asked-requires : goal.folder_checks-asked-requires
-folder_checks-asked-requires c = search gate_good
+pub folder_checks-requires : goal.folder_checks-requires
+folder_checks-requires c = search (gate_good, c.in_ok-closed.ensures)
 
-pub returns-in_default-asked : goal.returns-in_default-asked
-returns-in_default-asked c = search total_asked
+pub returns-in_err-folder_checks : goal.returns-in_err-folder_checks
+returns-in_err-folder_checks c = search (total_asked, c.in_ok-closed.ensures, c.in_err-folder_checks.ensures)
 
 pub of-sizes-requires : goal.of-sizes-requires
-of-sizes-requires c = search (good_long, gate_good)
+of-sizes-requires c = search (good_long, gate_good, c.in_ok-closed.ensures)
 
 pub folder_total-requires : goal.folder_total-requires
-folder_total-requires c = search (gate_good, gate_few, gate_places)
+folder_total-requires c = search (gate_good, gate_few, c.in_ok-closed.ensures)
 
 pub returns : goal.returns
-returns c = search total_is_lem
+returns c = search (total_is_lem, c.in_ok-closed.ensures, c.in_ok-folder_checks.ensures)

@@ -18,8 +18,8 @@ is_directory-requires c = (search good_readable, search file_inside)
 pub returns-then-is_directory : goal.returns-then-is_directory
 returns-then-is_directory c = search state_folder
 
-pub judged_file-size-requires : goal.judged_file-size-requires
-judged_file-size-requires c = (search good_ready, search kind_file, search file_below, search, search good_log)
+pub judged_file-requires : goal.judged_file-requires
+judged_file-requires c = (search good_ready, search kind_file, search file_below, search, search good_log)
 
 pub returns : goal.returns
 returns c = search state_there

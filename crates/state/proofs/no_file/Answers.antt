@@ -2,5 +2,5 @@
 use Rattle.state.proofs.Sizes.{file_none}
 use Rattle.state.proofs.no_file.Goals as goal
 
-pub returns : goal.returns
-returns c = search file_none
+pub returns-else-inode-eq0 : goal.returns-else-inode-eq0
+returns-else-inode-eq0 c = search file_none

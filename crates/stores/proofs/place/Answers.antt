@@ -1,10 +1,10 @@
--- The goals that want a lemma of their own.
+-- The last pair that is left stays before the place, or all that are left do but that one.
 use Rattle.model.proofs.Prelude.{rules}
 use Rattle.stores.proofs.Texts.{place_here, place_next, place_end}
 use Rattle.stores.proofs.place.Goals as goal
 
-pub returns-then-x-i : goal.returns-then-x-i
-returns-then-x-i c = search (rules, place_here)
+pub returns-then-list-from : goal.returns-then-list-from
+returns-then-list-from c = search (rules, place_here)
 
 pub loop-k-preserved : goal.loop-k-preserved
 loop-k-preserved c = search (rules, place_next)

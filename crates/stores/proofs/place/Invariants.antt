@@ -1,10 +1,7 @@
 -- The loop's invariant: the place among the pairs that are left is the place among all.
-use Rattle.model.proofs.Prelude.{◌≤◌, ◌≡◌}
+use Rattle.model.proofs.Prelude.{◌≡◌}
 use Rattle.stores.specs.Added.{place_of}
 use Rattle.stores.proofs.place.Given as goal
 
 abbrev pub invariant-loop-k : goal.invariant-loop-k
-invariant-loop-k l = (l.k ≤ l.n) × (place_of l.list l.from l.k l.i ≡ place_of l.list l.from l.n l.i)
-
-abbrev pub decreases-loop-k : goal.decreases-loop-k
-decreases-loop-k l = l.k
+invariant-loop-k l = place_of l.list l.from l.k l.i ≡ place_of l.list l.from l.n l.i

@@ -3,8 +3,8 @@ use Rattle.model.proofs.Prelude.{rules}
 use Rattle.stores.proofs.Groups.{put_there, put_new}
 use Rattle.stores.proofs.put.Goals as goal
 
-pub returns-then-there : goal.returns-then-there
-returns-then-there c = (search (rules, put_there), search rules, search rules)
+pub returns-then-has_word : goal.returns-then-has_word
+returns-then-has_word c = (search (rules, put_there), search rules, search rules)
 
 pub returns : goal.returns
 returns c = (search (rules, put_new), search rules, search rules)

@@ -1,4 +1,4 @@
--- The goals that want a lemma of their own.
+-- A turn adds the next word; at the end none is left.
 use Rattle.model.proofs.Prelude.{rules}
 use Rattle.stores.proofs.Runs.{words_start, words_next, words_done}
 use Rattle.stores.proofs.put_each.Goals as goal

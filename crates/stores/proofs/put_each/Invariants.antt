@@ -6,9 +6,6 @@ use Rattle.stores.proofs.put_each.Given as goal
 
 abbrev pub invariant-loop-i : goal.invariant-loop-i
 invariant-loop-i l =
-    (l.i ≤ length l.words) × (l.e + 2 * (length l.words - l.i) ≤ l.end + 2 * length l.words)
+    (l.e + 2 * (length l.words - l.i) ≤ l.end + 2 * length l.words)
     × Adding l.initial.list 0 l.end (run l.w (length l.words) (element l.words)) l.list l.e
     (run (l.w + l.i) (length l.words - l.i) (element_from l.words l.i))
-
-abbrev pub decreases-loop-i : goal.decreases-loop-i
-decreases-loop-i l = length l.words - l.i

@@ -1,21 +1,21 @@
--- The goals that want a lemma of their own.
-use Rattle.model.proofs.Prelude.{arith}
-use Rattle.directory.proofs.Table.{places_start, place_in, places_skip}
-use Rattle.names.proofs.Inodes.{below_here, below_next}
+-- A turn lays the inode of the next name.
+use Rattle.model.proofs.Prelude.{rules, arith}
+use Rattle.directory.proofs.Table.{next_in}
+use Rattle.names.proofs.Inodes.{inodes_start, next_below, rest_below}
 use Rattle.totals.proofs.Tables.{laid_next, laid_all}
 use Rattle.totals.proofs.lay_inodes.Goals as goal
 
-pub loop-left-init : goal.loop-left-init
-loop-left-init c = search (places_start, arith)
+pub loop-i-init : goal.loop-i-init
+loop-i-init c = rw (inodes_start _ _ _ _ c.requires.0) (search)
 
-pub inode_at-k-requires : goal.inode_at-k-requires
-inode_at-k-requires c = search place_in
+pub inode_at-requires : goal.inode_at-requires
+inode_at-requires c = (search (arith, next_in), search arith)
 
-pub put_inode-requires : goal.put_inode-requires
-put_inode-requires c = search (below_here, arith)
+pub overflow_cast-inodes : goal.overflow_cast-inodes
+overflow_cast-inodes c = search (rules, next_below)
 
-pub loop-left-preserved : goal.loop-left-preserved
-loop-left-preserved c = search (places_skip, below_next, laid_next, arith)
+pub loop-i-preserved : goal.loop-i-preserved
+loop-i-preserved c = search (rest_below, laid_next)
 
 pub returns : goal.returns
 returns c = search laid_all

@@ -1,7 +1,7 @@
--- What `put_le` stores at the word's first byte is the word, by definition.
-use Rattle.model.specs.Words.{put_word}
+-- The eight bytes that are stored are those that the definition stores one after the other.
+use Rattle.model.proofs.Prelude.{rules}
+use Rattle.words.proofs.Bytes.{bytes_put}
 use Rattle.words.proofs.put_word.Goals as goal
 
 pub returns : goal.returns
-unfolding put_word
-returns c = cc
+returns c = search (rules, bytes_put)

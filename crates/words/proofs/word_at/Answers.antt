@@ -1,7 +1,7 @@
--- What `le_at` answers at the word's first byte is the word, by definition.
-use Rattle.model.specs.Words.{word}
+-- The eight bytes that are read make the word.
+use Rattle.model.proofs.Prelude.{rules}
+use Rattle.words.proofs.Bytes.{bytes_read}
 use Rattle.words.proofs.word_at.Goals as goal
 
 pub returns : goal.returns
-unfolding word
-returns c = cc
+returns c = search (rules, bytes_read)

@@ -8,19 +8,18 @@ use Rattle.writing.proofs.set_size.Goals as goal
 pub returns-then-list-lt-LIST_WORDS : goal.returns-then-list-lt-LIST_WORDS
 returns-then-list-lt-LIST_WORDS c = search size_short
 
-pub returns-in_default : goal.returns-in_default
-returns-in_default c = size_refused _ _ _ _ (search rules) _ _ _ c.file-state.ensures (search)
+pub returns-in_err-old : goal.returns-in_err-old
+returns-in_err-old c = search (rules, size_refused, c.in_err-old.ensures)
 
 pub returns-then-size-gt-FILE_BYTES : goal.returns-then-size-gt-FILE_BYTES
-returns-then-size-gt-FILE_BYTES c = search size_past
+returns-then-size-gt-FILE_BYTES c = search (size_past, c.in_ok-old.ensures)
 
 pub returns-then-size-old : goal.returns-then-size-old
-returns-then-size-old c = search size_none
+returns-then-size-old c = search (size_none, c.in_ok-old.ensures)
 
 pub lay_kept-n-requires : goal.lay_kept-n-requires
 lay_kept-n-requires c =
-    let a = c.file-state.ensures in
-    let e = c.in-Number.is in (state_within _ _ _ _ _ a _ e, state_small _ _ _ _ _ a _ e, refl)
+    let a = c.in_ok-old.ensures in (state_within _ _ _ _ _ a, state_small _ _ _ _ _ a, refl)
 
 pub slice_bounds-data-end : goal.slice_bounds-data-end
 slice_bounds-data-end c = kept_fits _ _ _ _ _ _ c.lay_kept-n.ensures
@@ -30,12 +29,12 @@ slice_bounds-make-end-2 c = kept_taken _ _ _ _ _ _ c.lay_kept-n.ensures
 
 pub make-requires : goal.make-requires
 make-requires c =
-    size_ready _ _ _ _ c.if-list-lt-LIST_WORDS.false _ _ _ c.file-state.ensures _ c.in-Number.is c.if-size-gt-FILE_BYTES.false
+    size_ready _ _ _ _ c.if-list-lt-LIST_WORDS.false _ _ _ c.in_ok-old.ensures c.if-size-gt-FILE_BYTES.false
     c.if-size-old.false
     _ _ c.lay_kept-n.ensures _ _ c.size_words-e.ensures _ _ _ c.to_file-a.ensures refl
 
 pub returns : goal.returns
 returns c =
-    size_comes _ _ _ _ c.if-list-lt-LIST_WORDS.false _ _ _ c.file-state.ensures _ c.in-Number.is c.if-size-gt-FILE_BYTES.false
+    size_comes _ _ _ _ c.if-list-lt-LIST_WORDS.false _ _ _ c.in_ok-old.ensures c.if-size-gt-FILE_BYTES.false
     c.if-size-old.false
     _ _ c.lay_kept-n.ensures _ _ c.size_words-e.ensures _ _ _ c.to_file-a.ensures refl refl refl _ _ c.make.ensures

@@ -1,8 +1,0 @@
--- An inode of this type is made.
-use Rattle.model.proofs.Prelude.{rules}
-use Rattle.naming.specs.Folder.{make_call}
-use Rattle.naming.proofs.create.Goals as goal
-
-pub returns : goal.returns
-unfolding make_call
-returns c = search rules
