@@ -20,7 +20,10 @@ fn lay_piece(v: &[u8], d: usize, o: usize, part: &mut [u8])
         part.fill(0);
     } else {
         let at = layout::PAGE * d + o;
-        part.copy_from_slice(&v[at..at + part.len()]);
+        // Kept: a loop, since copy_from_slice has the archive for C want memmove from outside.
+        for i in 0..part.len() {
+            part[i] = v[at + i];
+        }
     }
 }
 
