@@ -65,3 +65,23 @@ impl Marks {
         true
     }
 }
+
+impl From<[u8; 4096]> for Marks {
+    ghost from_gives = { λ bytes marks. marks ≡ bytes };
+
+    // Answers the marks that 4,096 bytes are, for a caller that holds them so. Any byte but 0 marks its page.
+    // Example: where byte 5 is 2 and byte 6 is 0, is_marked(5) of Marks::from(bytes) is true, and is_marked(6) false.
+    fn from(bytes: [u8; 4096]) -> Marks {
+        Marks { bytes }
+    }
+}
+
+impl From<Marks> for [u8; 4096] {
+    ghost from_gives = { λ marks bytes. bytes ≡ marks };
+
+    // Answers the bytes of marks: those that they were made of, and 1 at each page that was taken since.
+    // Example: <[u8; 4096]>::from(Marks::from(bytes)) is bytes.
+    fn from(marks: Marks) -> [u8; 4096] {
+        marks.bytes
+    }
+}

@@ -7,6 +7,7 @@ ghost use Rattle.std.specs.Prelude.{◌≡◌, true, cond, ◌≤◌, ◌<◌, �
 ghost use Rattle.tree.specs.Table.{state_in, parent_in, with_state, after_name, may_name, noted, above_in, Unsettled, SettlesAll};
 ghost use Rattle.tree.specs.Node.{state_number, state_number_or, node_number, ParentsFit};
 ghost use Rattle.tree.specs.Way.{meets_in, way_marked, passes, passed};
+ghost use Rattle.tree.specs.Numbers.{known_state, known, reached};
 
 use std::marker::Model;
 
@@ -69,6 +70,25 @@ impl State {
             State::FileOnce | State::FileOften => Some(State::FileOften),
             State::Folder => Some(State::FolderNamed),
             State::Free | State::FolderNamed | State::FolderReached => None,
+        }
+    }
+}
+
+impl From<u16> for State {
+    ghost from_gives = { λ number state. state_number state ≡ known_state number };
+
+    // Answers the state of a number; State::Free where it is the number of none.
+    // Example: State::from(5) is State::FolderNamed, and State::from(7) is State::Free.
+    #[tactic(auto, unfolding(crate::specs::Numbers::known_state))]
+    fn from(number: u16) -> State {
+        match number {
+            1 => State::File,
+            2 => State::FileOnce,
+            3 => State::FileOften,
+            4 => State::Folder,
+            5 => State::FolderNamed,
+            6 => State::FolderReached,
+            _ => State::Free,
         }
     }
 }
@@ -256,5 +276,81 @@ impl Tree {
             State::FileOften => 0,
             _ => k,
         }
+    }
+}
+
+// A caller may hold the table as an array of 256 numbers of its own, 256 times the state of an inode and its parent: for it the three
+// functions below stand beside the methods of `Tree`. Such an array may hold any number. One of 1,792 or more has the number of no state,
+// and is to all three what an inode that is not valid is.
+
+impl From<&[u16; 256]> for Tree {
+    ghost from_gives = { λ numbers tree. tree ≡ map known numbers.now };
+
+    // Answers the table that an array of numbers is; where the state of an element is none, State::Free stands in it, with its parent.
+    // Example: where element 3 is 1282, state(3) of Tree::from(numbers) is State::FolderNamed, and parent(3) is 2.
+    fn from(numbers: &[u16; 256]) -> Tree {
+        let mut tree = Tree::new();
+        for (k, x) in numbers.iter().enumerate() {
+            tree.put(k, State::from(*x / 256), usize::from(*x % 256));
+        }
+        tree
+    }
+}
+
+// Answers what becomes of an element once its folder is reached: a folder with one name is a reached one then; any other number stays.
+// Example: reached(1282) is 1538, and reached(770) is 770.
+fn reached(number: u16) -> u16
+    ensures { result ≡ reached number }
+{
+    match State::from(number / 256) {
+        State::FolderNamed => number + 256,
+        _ => number,
+    }
+}
+
+// Makes the folders with one name reached ones, in elements of a table of numbers. Answers nothing.
+// Example: where an element is 1282, reach_named makes it 1538.
+fn reach_named(numbers: &mut [u16])
+    ensures { numbers.new ≡ map reached numbers.old }
+{
+    for x in numbers.iter_mut() {
+        *x = reached(*x);
+    }
+}
+
+// Judges every inode after all names were noted, in a table of numbers. Answers what `Tree::settle_all` answers.
+// Example: of the table of a volume just formatted it is true; where elements 2 and 5 are 1285 and 1282, so that inodes 2 and 5 are folders
+// and each is the parent of the other, it is false.
+pub fn settle_all(tree: &mut [u16; 256], inodes: usize) -> bool
+    requires { Unsettled inodes tree.old × (0 < inodes) × (inodes ≤ 256) }
+    ensures { SettlesAll inodes tree.old result tree.new }
+{
+    let mut table = Tree::from(&*tree);
+    if !table.settle_all(inodes) {
+        return false;
+    }
+    reach_named(&mut tree[..inodes]);
+    true
+}
+
+// Answers whether folder f is folder k or lies above it, in a table of numbers.
+// Example: where element 5 is 1538, so that inode 5 has parent 2, is_beneath(tree, 2, 5, 8) and is_beneath(tree, 5, 5, 8) are true, and
+// is_beneath(tree, 5, 2, 8) is false.
+pub fn is_beneath(tree: &[u16; 256], f: usize, k: usize, inodes: usize) -> bool
+    requires { k < 256 }
+    ensures { result ≡ above_in tree.now inodes f k }
+{
+    Tree::from(tree).is_beneath(f, k, inodes)
+}
+
+// Answers inode k, if exactly one name leads to it, in a table of numbers; else 0. No name leads to inode 0.
+// Example: where element 3 is 770, so that two names lead to inode 3, released(tree, 3) is 0.
+pub fn released(tree: &[u16; 256], k: usize) -> usize
+    requires { k < 256 }
+    ensures { result ≡ cond (eqb (state_in tree.now k) 3) 0 k }
+{
+    match State::from(tree[k] / 256) {
+        State::FileOften => 0,
+        _ => k,
     }
 }
