@@ -1,5 +1,5 @@
--- Where the gaps end. Lists that are filled with the gaps, one gap each turn: the elements of the gaps so far stand at the list's start.
-use Rattle.model.proofs.Prelude.{ℕ, suc, ◌-◌, Bool, cond, ◌+◌, ◌*◌, ◌/◌, ◌≤◌, ◌<◌, ◌≡◌, refl, sym, ◌∙◌, ap, List, [], ◌∷◌, ◌++◌, map, some, arith, add-zero, zero-add, length, length-map, get_or, set, length-append, map-append, sets, sets-eq, drop}
+-- Lists that are filled with the gaps, one gap each turn: the elements of the gaps so far stand at the list's start.
+use Rattle.model.proofs.Prelude.{ℕ, suc, ◌+◌, ◌*◌, ◌/◌, ◌≤◌, ◌<◌, ◌≡◌, refl, sym, ◌∙◌, ap, List, [], ◌∷◌, ◌++◌, map, some, arith, add-zero, zero-add, length, length-map, get_or, set, length-append, map-append, sets, sets-eq, drop}
 use Rattle.std.specs.Prelude.{Result, Err, IsErrAnd}
 use Rattle.std.specs.List.{enumerate_from}
 use Rattle.std.specs.Iterator.{YieldsFirst}
@@ -7,37 +7,17 @@ use Rattle.std.specs.Iterator.Adapters.{enumerate_steps}
 use Rattle.std.specs.declared.iter.Enumerate.{Enumerate}
 use Rattle.std.proofs.lemmas.Iterator.{YieldsList}
 use Rattle.std.proofs.lemmas.Iterator.Consumers.{YieldsList-from_first, YieldsList-from_enumerate}
-use Rattle.std.proofs.lemmas.List.Elements.{All-nil, All-cons}
 use Rattle.std.proofs.lemmas.List.FromFn.{length-enumerate_from, get_or-enumerate_from}
 use Rattle.model.specs.Answer as model
 use Rattle.model.specs.Answer.{refused, done, map_answer}
 use Rattle.model.specs.Public.{gaps_answer, gaps_list, flat, gaps_words}
-use Rattle.model.specs.Stretches.{Stretch, stretches_of}
-use Rattle.model.proofs.Tests.{by_lt}
-use Rattle.model.proofs.State.Stretches.{Each, Stands, stretches_stand}
-use Rattle.model.proofs.State.Gaps.{pairs_none}
 use Rattle.answer.specs.Meaning.{meaning, numbered, number_of}
 use Rattle.answer.specs.declared.Refusal.{Refusal}
 use Rattle.answer.proofs.Checked.{clash, passed_on}
-use Rattle.gaps.specs.Gaps.{gap_of, gaps_left, gaps_ahead, EndBy, Seen, Judged}
+use Rattle.gaps.specs.Gaps.{gap_of, gaps_left, gaps_ahead, Seen, Judged}
 use Rattle.gaps.proofs.Found.{few_left}
 use Rattle.gaps.specs.declared.Gap.{Gap}
 use Rattle.gaps.specs.declared.Gaps.{Gaps}
-
--- the stretches of the n numbers from i on end before number P
-stretches_end : (f : ℕ → ℕ) (P n i : ℕ) → i + n ≤ P → (ss : List Stretch) → Each (Stands f n i) ss
-    → EndBy P (map gap_of (map (λ s. (s.first, s.count)) ss))
-stretches_end f P n i h [] e = All-nil (λ (g : Gap). g.first + g.length ≤ P)
-stretches_end f P n i h (s ∷ ss) e =
-    let k = e.0.to in All-cons (λ (g : Gap). g.first + g.length ≤ P) _ _ (omega arith) (stretches_end f P n i h ss e.1)
-
--- the gaps from page p on end at the page count or before it
-pub gaps_inside : (f : ℕ → Bool) (P p : ℕ) → EndBy P (map gap_of (stretches_of f (P - p) p))
-unfolding stretches_of
-gaps_inside f P p =
-    let on : ℕ → ℕ = λ j. cond (f j) j 0 in
-    by_lt p P (λ l. stretches_end on P (P - p) p (omega arith) _ (stretches_stand on (P - p) p))
-    (λ l. rw (pairs_none f P p l) (All-nil (λ (g : Gap). g.first + g.length ≤ P)))
 
 -- The loop goes over the gaps gs, numbered; ps are the numbered gaps so far.
 

@@ -64,7 +64,7 @@ module _ (f : ℕ → Bool) (P : ℕ) where
       (λ x. let r = from_lowest t (s + 1) p (omega arith) (rw (lowest, x) at e) in (pairs_skip f P s x ∙ r.0, r.1))
 
 -- page 0 holds no data
-none_first : (b : List ℕ) (P N : ℕ) → unmarked b P N 0 ≡ false
+pub none_first : (b : List ℕ) (P N : ℕ) → unmarked b P N 0 ≡ false
 unfolding unmarked
 none_first b P N = rw (zero_outside P N)
 

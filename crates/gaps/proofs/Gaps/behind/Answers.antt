@@ -1,5 +1,5 @@
 -- The gaps from any page on end inside.
-use Rattle.gaps.proofs.Filling.{gaps_inside}
+use Rattle.gaps.proofs.Behind.{gaps_inside}
 use Rattle.gaps.proofs.Gaps.behind.Goals as goal
 
 pub returns-clause-inside : goal.returns-clause-inside
