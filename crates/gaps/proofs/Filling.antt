@@ -84,7 +84,7 @@ module _ (l₀ : List Gap) where
     -- the byte at which gap i stands in the list is a number of 64 bits
     pub gap_fits : (n i : ℕ) → Seen v (length l₀) n marks → i < length (map gap_of (gaps_left v marks 0))
         → i * 16 < 18446744073709551616
-    gap_fits n i s h = let k = rw length-map at h in let f = few_left v marks s.pages in omega (arith, k, f)
+    gap_fits n i s h = let k = rw length-map at h in let f = few_left v marks 0 s.pages in omega (arith, k, f)
 
     pub gaps_end : (n : ℕ) (l : List Gap) (ps : List (ℕ × Gap)) → Seen v (length l₀) n marks → l ≡ sets l₀ 0 (without_numbers ps)
         → without_numbers ps ≡ map gap_of (gaps_left v marks 0) → l ≡ gaps_list gap_of v l₀

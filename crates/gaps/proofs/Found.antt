@@ -64,7 +64,7 @@ module _ (f : ℕ → Bool) (P : ℕ) where
       (λ x. let r = from_lowest t (s + 1) p (omega arith) (rw (lowest, x) at e) in (pairs_skip f P s x ∙ r.0, r.1))
 
 -- page 0 holds no data
-none_first : (b : List ℕ) (P N : ℕ) → unmarked b P N 0 ≡ false
+pub none_first : (b : List ℕ) (P N : ℕ) → unmarked b P N 0 ≡ false
 unfolding unmarked
 none_first b P N = rw (zero_outside P N)
 
@@ -94,9 +94,9 @@ module _ (b : List ℕ) (s : Sizes) (q : ℕ) where
     ahead_less = let n = ap length ahead_next in omega (arith, n)
 
 -- the marks show few gaps
-pub few_left : (v b : List ℕ) → word v 0 ≤ 4096 → length (gaps_left v b 0) ≤ 4096
+pub few_left : (v b : List ℕ) (p : ℕ) → word v 0 ≤ 4096 → length (gaps_left v b p) ≤ 4096
 unfolding stretches_of
-few_left v b h = rw length-map (le_trans (stretches_length _ (word v 0 - 0) 0) (omega arith))
+few_left v b p h = rw length-map (le_trans (stretches_length _ (word v 0 - p) p) (omega arith))
 
-pub few_gaps : (v b : List ℕ) (gs : List Gap) → gs ≡ map gap_of (gaps_left v b 0) → word v 0 ≤ 4096 → 0 + length gs < 2 ^ 64
-few_gaps v b gs e h = let l = few_left v b h in rw (e, length-map) (omega arith)
+pub few_gaps : (v b : List ℕ) (p : ℕ) (gs : List Gap) → gs ≡ map gap_of (gaps_left v b p) → word v 0 ≤ 4096 → 0 + length gs < 2 ^ 64
+few_gaps v b p gs e h = let l = few_left v b p h in rw (e, length-map) (omega arith)

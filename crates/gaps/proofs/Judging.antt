@@ -14,6 +14,7 @@ use Rattle.answer.proofs.Checked.{passed_on}
 use Rattle.gate.specs.Gated.{Gated}
 use Rattle.gate.proofs.Gates.{gate_refused, gate_passed, gate_long, gate_pages}
 use Rattle.gaps.specs.Gaps.{gap_of, gaps_left, Judged}
+use Rattle.gaps.proofs.Found.{few_left}
 use Rattle.gaps.specs.declared.Gap.{Gap}
 
 -- the gaps of the volume v
@@ -69,6 +70,7 @@ module _ (v : List ℕ) (room : ℕ) (places marks tree : List ℕ) where
             long = omega (arith, gate_long v _ k places marks tree g);
             pages = pages;
             count = counted;
+            few = rw counted (few_left v marks 0 pages);
             fits = l;
             gaps = all_listed l;
           };

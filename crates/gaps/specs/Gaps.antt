@@ -1,5 +1,5 @@
 -- Gaps in the marks that the judge of a volume left.
-use Rattle.std.specs.Prelude.{ℕ, ◌+◌, ◌-◌, ◌≤◌, ◌<◌, ◌≡◌, Bool, true, false, List, map, length, Result, IfOk}
+use Rattle.std.specs.Prelude.{ℕ, ◌+◌, ◌-◌, ◌≤◌, ◌<◌, ◌≡◌, Bool, true, false, List, map, length, Result, IfOk, All}
 use Rattle.model.specs.Stretches.{stretches_of}
 use Rattle.model.specs.Words.{word}
 use Rattle.model.specs.Answer.{done}
@@ -28,11 +28,16 @@ gaps_ahead marks s p = map gap_of (stretches_of (unmarked marks s.pages s.inodes
 abbrev pub gaps_left : List ℕ → List ℕ → ℕ → List (ℕ × ℕ)
 gaps_left v marks p = stretches_of (unmarked marks (word v 0) (word v 1)) (word v 0 - p) p
 
+-- the gaps end at page P or before it
+abbrev pub EndBy : ℕ → List Gap → Type 0
+EndBy P gs = All (λ g. g.first + g.length ≤ P) gs
+
 -- the marks show the gaps of the volume v, n of them, which a list of so many pairs has room for
 pub record Seen (v : List ℕ) (room n : ℕ) (marks : List ℕ) : Type 0 where
   pub long : 16 ≤ length v
   pub pages : word v 0 ≤ 4096
   pub count : n ≡ length (gaps_left v marks 0)
+  pub few : n ≤ 4096
   pub fits : n ≤ room
   pub gaps : gaps_in (length v) (word v) room ≡ done (gaps_left v marks 0)
 

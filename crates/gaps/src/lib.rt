@@ -7,7 +7,7 @@ ghost use Rattle.model.specs.Public.{gaps_answer, gaps_words};
 ghost use Rattle.marks.specs.Marks.{unmarked};
 ghost use Rattle.answer.specs.Meaning.{meaning, numbered};
 ghost use Rattle.std.specs.Iterator.{YieldsFirst, item_count};
-ghost use Rattle.gaps.specs.Gaps.{Runs, gap_of, gaps_left, gaps_ahead, Judged};
+ghost use Rattle.gaps.specs.Gaps.{Runs, gap_of, gaps_left, gaps_ahead, EndBy, Judged};
 
 use answer::Refusal;
 use layout::Sizes;
@@ -56,6 +56,22 @@ impl<'a> Gaps<'a> {
             marks,
             sizes: Sizes::of(v),
             from: 0,
+        }
+    }
+
+    // Answers the gaps of a volume behind a gap, from the page on that follows it. The gap may have no pages, and may be a part of one.
+    // Example: of 16 pages, 8 inodes and marks that are all 0 but that of page 4 the gap behind (2, 2) is (5, 11), those behind (0, 0) are
+    // (2, 2) and (5, 11), the one behind (5, 3) is (8, 8), and there is none behind (5, 11).
+    pub fn behind(v: &[u8], marks: &'a Marks, gap: Gap) -> Gaps<'a>
+        requires { (16 ≤ length v.now) × (word v.now 0 ≤ 4096) × (gap.first + gap.length ≤ 4096) }
+        ensures ahead { gaps_ahead result.marks.now result.sizes result.from ≡ map gap_of (gaps_left v.now marks.now (gap.first + gap.length)) }
+        ensures inside { EndBy (word v.now 0) (gaps_ahead result.marks.now result.sizes result.from) }
+    {
+        let from = gap.first + gap.length;
+        Gaps {
+            marks,
+            sizes: Sizes::of(v),
+            from: from as usize,
         }
     }
 }

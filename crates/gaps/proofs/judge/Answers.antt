@@ -14,7 +14,7 @@ pub of-requires : goal.of-requires
 of-requires c = search (rules, gate_word_1, gate_pages, c.in_ok-closed.ensures)
 
 pub count-n-requires-clause-fits : goal.count-n-requires-clause-fits
-count-n-requires-clause-fits c = inl (few_gaps _ _ _ c.of.ensures (gate_pages _ _ _ _ _ _ c.in_ok-closed.ensures _ refl))
+count-n-requires-clause-fits c = inl (few_gaps _ _ 0 _ c.of.ensures (gate_pages _ _ _ _ _ _ c.in_ok-closed.ensures _ refl))
 
 pub returns-then-room-n : goal.returns-then-room-n
 returns-then-room-n c =
