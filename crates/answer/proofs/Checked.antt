@@ -22,8 +22,8 @@ no_number_done (Ok u) x e = let q : ◌≡◌ {A = ℕ} 0 1 = cc in absurd (omeg
 no_number_done (Err d) x e = clash _ (some x) e
 
 -- what an answer that is no number means is a refusal
-pub refusal_of_lem : {A : Type 0} (r : Result ℕ Refusal) (x : model.Answer A) (f : A → Option ℕ) → ((a : A) → (n : ℕ) × (f a ≡ some n)) → NoNumber r
-    → meaning r ≡ map_answer f x → (k : ℕ) × (refused k ≡ x)
+pub refusal_of_lem : {A : Type 0} (r : Result ℕ Refusal) (x : model.Answer A) (f : A → Option ℕ) → ((a : A) → (n : ℕ) × (f a ≡ some n))
+    → NoNumber r → meaning r ≡ map_answer f x → (k : ℕ) × (refused k ≡ x)
 refusal_of_lem r (refused k) f s o h = (k, refl)
 refusal_of_lem r (done a) f s o h = no_number r (s a).0 o (h ∙ ap done (s a).1)
 

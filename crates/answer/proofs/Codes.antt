@@ -20,6 +20,6 @@ no_number_done (Ok u) = refl
 no_number_done (Err e) = refl
 
 -- the number of a case that is known, by what answers of its type mean
-pub numbered_so : {A : Type 0} (m : Result A Refusal → model.Answer (Option ℕ)) (a b : Result A Refusal) (n : ℕ) → a ≡ b → n ≡ refusal_of (m b) → n ≤ 18
-    → (n ≡ refusal_of (m a)) × (n ≤ 18)
+pub numbered_so : {A : Type 0} (m : Result A Refusal → model.Answer (Option ℕ)) (a b : Result A Refusal) (n : ℕ) → a ≡ b
+    → n ≡ refusal_of (m b) → n ≤ 18 → (n ≡ refusal_of (m a)) × (n ≤ 18)
 numbered_so m a b n e h l = (rw e h, l)

@@ -26,7 +26,8 @@ places_first t i (suc n) l = rw sub-one
 
 -- The places that are left, n from the i-th on; p is the one that the code read.
 
-module _ (m : Mem) (L : ℕ) (t : List ℕ) (n i p : ℕ) (a : all (place_ok m L) (places_from t i n) ≡ true) (l : 0 < n) (e : p ≡ get_or t i 0) where
+module _ (m : Mem) (L : ℕ) (t : List ℕ) (n i p : ℕ) (a : all (place_ok m L) (places_from t i n) ≡ true) (l : 0 < n)
+    (e : p ≡ get_or t i 0) where
   first_ok : (place_ok m L p ≡ true) × (all (place_ok m L) (places_from t (i + 1) (n - 1)) ≡ true)
   first_ok = rw e (all_cons (place_ok m L) (get_or t i 0) (places_from t (i + 1) (n - 1)) (rw (places_first t i n l) at a))
 
