@@ -1,15 +1,36 @@
 -- What checks came to: a refusal, which every call that asks them answers too, or a number, and then what comes after them decides.
-use Rattle.model.proofs.Prelude.{ℕ, ◌≡◌, refl, sym, ap, Bool, false, cond, [], ◌∷◌, ◌++◌, Option, some, arith}
-use Rattle.std.specs.Prelude.{Result, Ok, Err, IsErrAnd}
+use Rattle.model.proofs.Prelude.{ℕ, ◌≡◌, refl, sym, ◌∙◌, ap, Bool, false, cond, [], ◌∷◌, ◌++◌, Option, some, arith}
+use Rattle.std.specs.Prelude.{Result, Ok, Err, IsErrAnd, ⊤}
 use Rattle.model.specs.Answer as model
 use Rattle.model.specs.Answer.{refused, done, Checks, first_refusal, map_answer}
 use Rattle.model.proofs.Tests.{by_bool}
-use Rattle.answer.specs.Meaning.{numbered}
+use Rattle.answer.specs.Meaning.{meaning, done_meaning, numbered}
 use Rattle.answer.specs.declared.Refusal.{Refusal}
+use Rattle.answer.proofs.Codes.{NoNumber}
 
 -- a refusal is no done answer
 pub clash : {A X : Type 0} (k : ℕ) (a : A) → refused k ≡ done a → X
 clash k a e = let q : ◌≡◌ {A = ℕ} 0 1 = cc in absurd (omega arith)
+
+-- an answer that means a number is one
+pub no_number : {X : Type 0} (r : Result ℕ Refusal) (x : ℕ) → NoNumber r → meaning r ≡ done (some x) → X
+no_number (Ok y) x o e = absurd (o y refl)
+no_number (Err d) x o e = clash _ (some x) e
+
+pub no_number_done : {X : Type 0} (r : Result ⊤ Refusal) (x : ℕ) → done_meaning r ≡ done (some x) → X
+no_number_done (Ok u) x e = let q : ◌≡◌ {A = ℕ} 0 1 = cc in absurd (omega arith)
+no_number_done (Err d) x e = clash _ (some x) e
+
+-- what an answer that is no number means is a refusal
+pub refusal_of_lem : {A : Type 0} (r : Result ℕ Refusal) (x : model.Answer A) (f : A → Option ℕ) → ((a : A) → (n : ℕ) × (f a ≡ some n))
+    → NoNumber r → meaning r ≡ map_answer f x → (k : ℕ) × (refused k ≡ x)
+refusal_of_lem r (refused k) f s o h = (k, refl)
+refusal_of_lem r (done a) f s o h = no_number r (s a).0 o (h ∙ ap done (s a).1)
+
+pub refusal_of_done : {A : Type 0} (r : Result ⊤ Refusal) (x : model.Answer A) (f : A → Option ℕ) → ((a : A) → (n : ℕ) × (f a ≡ some n))
+    → done_meaning r ≡ map_answer f x → (k : ℕ) × (refused k ≡ x)
+refusal_of_done r (refused k) f s h = (k, refl)
+refusal_of_done r (done a) f s h = no_number_done r (s a).0 (h ∙ ap done (s a).1)
 
 -- what is answered by a refusal is that refusal
 pub told : {A : Type 0} (k : ℕ) (x : model.Answer A) (f : A → Option ℕ) → refused k ≡ map_answer f x → x ≡ refused k

@@ -1,5 +1,5 @@
 -- The tail that a log goes on with, the parts of the first group beside the first log, and the words that commit it.
-use Rattle.model.proofs.Prelude.{ℕ, zero, suc, ◌+◌, ◌*◌, ◌-◌, ◌/◌, ◌≤◌, ◌<◌, ◌%◌, ◌≡◌, refl, sym, ap, ◌∙◌, fun_ext, Bool, true, false, cond, ◌&&◌, not, List, [], ◌∷◌, ◌++◌, append-nil, none, arith, add-one, add-zero, zero-add, eqb, length, get_or, take, drop, drop-cons, drop_of_length-le, length-append, take-append_seam, eq-eqb, ne_eqb, lt-ltb, le-ltb}
+use Rattle.model.proofs.Prelude.{ℕ, zero, suc, ◌+◌, ◌*◌, ◌-◌, ◌/◌, ◌≤◌, ◌<◌, ◌%◌, ◌≡◌, refl, sym, ap, ◌∙◌, fun_ext, Bool, true, false, cond, ◌&&◌, not, List, [], ◌∷◌, ◌++◌, append-nil, none, arith, add-one, add-zero, zero-add, eqb, length, get_or, take, drop, drop-cons, drop_of_length-le, length-append, length-take-le, take-append_seam, eq-eqb, ne_eqb, lt-ltb, le-ltb}
 use Rattle.model.specs.Words.{Mem}
 use Rattle.model.specs.Lists.{index_of}
 use Rattle.model.specs.Layout.{valid_word, head_word, tail_word, type_word}
@@ -9,7 +9,7 @@ use Rattle.model.proofs.Tests.{by_eq, by_lt, inside, outside}
 use Rattle.layout.specs.declared.Sizes.{Sizes}
 use Rattle.stores.specs.Emitted.{Emitted}
 use Rattle.stores.specs.Added.{Added, Adding, element, element_from}
-use Rattle.stores.proofs.Emitting.{emitted_both, emitted_parts}
+use Rattle.stores.proofs.Emitting.{same_length, emitted_both, emitted_parts}
 use Rattle.stores.proofs.Groups.{added_both, added_none, added_if, added_not, adding_all, adding_next, slice_run}
 use Rattle.commit.specs.Commit.{changes_from, changes_of}
 use Rattle.entries.specs.Table.{entries_of}
@@ -199,6 +199,9 @@ pairs_changes (c ∷ cs) = rw (pairs_from c.0 c.1 (pairs_of cs) 0 (length cs), p
 module _ (l m : List ℕ) (r : ℕ) (cs : List Change) (e : Emitted l 0 (pairs_of cs) r m) (room : 8 ≤ length l) (few : r ≤ 8) where
   pub put_words : take r m ≡ pairs_of cs
   put_words = let n : r ≡ length (pairs_of cs) = e.end ∙ zero-add (length (pairs_of cs)) in rw (emitted_parts e (omega arith), n, take-append_seam)
+
+  pub put_long : r ≡ length (take r m)
+  put_long = sym (length-take-le r m (omega (arith, same_length e)))
 
   pub put_changes : changes_of (take r m) ≡ cs
   put_changes = let n : 2 * length cs / 2 ≡ length cs = omega arith in rw (put_words, pairs_long cs, n, pairs_changes cs)

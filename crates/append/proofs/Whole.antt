@@ -62,6 +62,9 @@ moved_entries ws n h =
     let a : moved_of ws k ≡ drop k ws = take_all (length ws - k) (drop k ws) (omega arith) in
     rw a (omega arith, entries_drop ws k 0 n ∙ ap (λ j. entries_of ws j n) (add-zero k))
 
+pub first_long : (ws : List ℕ) (n : ℕ) → 8 * (length ws / 8 - n) ≡ length (take (8 * (length ws / 8 - n)) ws)
+first_long ws n = sym (length-take-le (8 * (length ws / 8 - n)) ws (omega arith))
+
 -- What the code asks of the volume, the sizes and the inodes.
 module _ (v b : List ℕ) (a : Append) (ws ds l : List ℕ) (y : Ready v b a ws ds l) where
   abbrev sizes : (word v 0 ≤ 4096) × (word v 1 ≤ 256) × (64 + 8 * word v 1 ≤ 64 * word v 0) × (8 ≤ word v 1)
@@ -85,8 +88,17 @@ module _ (v b : List ℕ) (a : Append) (ws ds l : List ℕ) (y : Ready v b a ws 
   pub ready_pages : (P : ℕ) → P ≡ word v 0 → P ≤ 4096
   ready_pages P e = omega (arith, sizes.0)
 
+  pub ready_few : (n : ℕ) → n ≤ 9 → length ws / 8 - a.moved + n < 4611686018427387904
+  ready_few n h = omega (arith, y.few)
+
   pub ready_nine : (n : ℕ) → n ≡ length ds / 64 → n ≤ 9
   ready_nine n e = omega (arith, y.nine)
+
+  pub ready_bytes : 8 * (length ws / 8 - a.moved) * 8 < 18446744073709551616
+  ready_bytes = omega (arith, y.few)
+
+  pub ready_moved : a.moved < 4611686018427387904
+  ready_moved = omega (arith, y.few, y.moved)
 
   pub ready_marks : length b ≡ 4096
   ready_marks = rw (y.volume.served.list refl) (length_marked _ (replicate 4096 0) ∙ length-replicate {A = ℕ} 4096 0)
@@ -206,6 +218,9 @@ module _ (v b : List ℕ) (a : Append) (ws ds l : List ℕ) (y : Ready v b a ws 
 
   pub few_entries : (more : ℕ) → more ≤ length (take c ps) → length os ≡ 9 → more ≤ 9
   few_entries more h i = omega (arith, pages_long i, y.nine)
+
+  pub table_asks : (z : ℕ) → length os ≡ 9 → z ≡ 72 → (length (take c ps) ≤ 128) × (8 * length (take c ps) ≤ z) × (a.file < 4294967296)
+  table_asks z i j = let g = y.nine in let h = pages_long i in (omega arith, omega arith, y.file)
 
   -- The data has its pages. Of the table xs₀ the first `more` entries are those of its stretches, q₁ and q₂ are the pages that the logs need.
   module _ (some-data : not en ≡ false) (more : ℕ) (os₂ xs₀ : List ℕ)
@@ -424,6 +439,9 @@ module _ (v b : List ℕ) (a : Append) (ws ds l : List ℕ) (y : Ready v b a ws 
 
       count_is : length w₁ / 8 + length w₂ / 8 ≡ m
       count_is = rw (split.0, writes_are.0)
+
+      pub writes_long : 8 * more ≡ length w₂
+      writes_long = sym (length-take-le (8 * more) xs₀ (omega (arith, held.long, few_writes, y.nine)))
 
       pub lay_asks : (s.pages ≤ 4096) × Layable k s g₀ (length w₁ / 8 + length w₂ / 8) × (0 + 18 * (length w₁ / 8 + length w₂ / 8) ≤ length l)
       lay_asks = (omega (arith, few.0), rw count_is first_layable, omega (arith, count_is, few_writes, y.room))

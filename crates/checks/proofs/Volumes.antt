@@ -1,5 +1,5 @@
 -- What the code may read of an accepted volume, and what a table that was turned to a folder tells of its names.
-use Rattle.model.proofs.Prelude.{ℕ, ◌<◌, ◌≡◌, sym, ◌∙◌, Bool, true, false, not, List, arith, length, take, ltb-true, not-false, eq-eqb, ne_eqb}
+use Rattle.model.proofs.Prelude.{ℕ, ◌<◌, ◌≡◌, refl, sym, ◌∙◌, Bool, true, false, not, List, arith, length, take, ltb-true, not-false, eq-eqb, ne_eqb}
 use Rattle.std.specs.Prelude.{Option, unwrap_or}
 use Rattle.model.specs.Words.{word}
 use Rattle.model.specs.Journal.{view}
@@ -32,6 +32,12 @@ valid_below v N d q e a h =
 module _ (v : List ℕ) (d : ℕ) (r : FolderNames) (t : List ℕ) (w : Turned v d r t) where
   pub turned_filled : Filled (word v) (length v) r.count t
   turned_filled = w.lists.filled
+
+  pub turned_self : Turned v r.folder r t
+  turned_self = record { folder = refl; lists = of_folder_lem r.folder w.folder }
+    where
+      of_folder_lem : (e : ℕ) → e ≡ d → Lists v e r.count t
+      of_folder_lem e q = rw q w.lists
 
   pub turned_count : length (names_in v d) ≡ r.count
   turned_count = rw (← w.lists.names) (standing_length (word v) (length v) t r.count turned_filled)

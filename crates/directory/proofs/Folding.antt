@@ -29,6 +29,10 @@ use Rattle.std.specs.Option.{ok_or}
 use Rattle.std.specs.Result.{result_ok}
 use Rattle.directory.proofs.Standing.{names_stand, places_good, names_many}
 
+-- the large index is empty at first
+pub large_none : ◌≡◌ {A = List ℕ} (replicate 16256 0) (replicate (length (replicate {A = ℕ} 16256 0)) 0)
+large_none = ap (λ (n : ℕ). replicate n 0) (sym (length-replicate {A = ℕ} 16256 0))
+
 -- An empty index of M slots.
 
 module _ (m : Mem) (L b M : ℕ) (g : Log) (f : FoundLog m L g) where

@@ -1,6 +1,6 @@
 -- Entries laid into a table: an entry is put word by word, and behind the entries that were there it is one more.
-use Rattle.model.proofs.Prelude.{ℕ, zero, suc, ◌+◌, ◌*◌, ◌-◌, ◌≤◌, ◌<◌, ◌≡◌, refl, sym, ◌∙◌, List, [], ◌∷◌, ◌++◌, append_assoc, append-nil, cond, arith, zero-add, length, ext_get_or, take, drop, get_or-take, get_or-drop}
-use Rattle.model.proofs.Tests.{within, inside, outside}
+use Rattle.model.proofs.Prelude.{ℕ, zero, suc, ◌+◌, ◌*◌, ◌-◌, ◌≤◌, ◌<◌, ◌≡◌, refl, sym, ◌∙◌, List, [], ◌∷◌, ◌++◌, append_assoc, append-nil, cond, arith, zero-add, length, set, length-set, ext_get_or, get_or-set_same, get_or-set_other, take, drop, get_or-take, get_or-drop}
+use Rattle.model.proofs.Tests.{by_eq, within, inside, outside}
 use Rattle.files.proofs.Runs.{over_at, length_over}
 use Rattle.model.proofs.Lists.{length_values, values_at, values_same}
 use Rattle.entries.specs.Table.{element, part, entries_of, Holds, Put}
@@ -69,6 +69,38 @@ module _ (l e : List ℕ) (at n : ℕ) (h : length e ≡ 8) (is : at ≡ 8 * n) 
         entries = entries_more n 0 (omega arith);
         long = length_over l e (drop 8 (drop at l)) at 8 h (omega arith) refl;
       })
+
+-- A loop that puts an entry word by word: the table l is m by now, with the first i words of e laid from element `at` on.
+
+pub record Laying (l m e : List ℕ) (at i : ℕ) : Type 0 where
+  pub long : length m ≡ length l
+  pub kept : (j : ℕ) → j < at → element m j ≡ element l j
+  pub laid : (j : ℕ) → j < i → element m (at + j) ≡ element e j
+
+pub laying_none : (l e : List ℕ) (at : ℕ) → Laying l l e at 0
+laying_none l e at = record { long = refl; kept = λ j g. refl; laid = λ j g. absurd (omega arith) }
+
+pub laying_next : (l m e : List ℕ) (n i : ℕ) → Laying l m e (8 * n) i → 8 * n + 8 ≤ length l → i < 8
+    → Laying l (set m (8 * n + i) (element e i)) e (8 * n) (i + 1)
+laying_next l m e n i q h g =
+    let k = q.long in
+    record {
+      long = rw length-set k;
+      kept = λ j b. get_or-set_other m (8 * n + i) j (element e i) 0 (omega arith) ∙ q.kept j b;
+      laid = λ j b. by_eq j i (λ f. rw f (get_or-set_same m (8 * n + i) (element e i) 0 (omega arith)))
+          (λ f. get_or-set_other m (8 * n + i) (8 * n + j) (element e i) 0 (omega arith) ∙ q.laid j (omega arith));
+    }
+
+module _ (l w e : List ℕ) (n i : ℕ) (q : Laying l w e (8 * n) i) (h : length e ≡ 8) (g : 8 ≤ i) where
+  laid_more : (j k : ℕ) → k + 8 * j ≡ 8 * n → entries_of w k (j + 1) ≡ entries_of l k j ++ (e ∷ [])
+  unfolding entries_of
+  laid_more zero k f = rw (part_is w e k h (λ o b. let s : k + o ≡ 8 * n + o = omega arith in rw s (q.laid o (omega arith))))
+  laid_more (suc j) k f =
+      let s : suc j + 1 ≡ suc (j + 1) = omega arith in
+      rw (s, values_same (element w) (element l) k 8 (λ o a b. q.kept o (omega arith)), laid_more j (k + 8) (omega arith))
+
+  pub laying_end : Put l w n e
+  laying_end = record { entries = laid_more n 0 (omega arith); long = q.long }
 
 -- A loop that puts entries: the table l is m by now, and its first n entries, then `rest`, are the entries es.
 

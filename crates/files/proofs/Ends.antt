@@ -14,6 +14,13 @@ use Rattle.std.specs.List.{AllWithin, HoldsAt}
 use Rattle.words.proofs.Cond.{asked_true, asked_false}
 use Rattle.files.specs.State.{file_from, starts_ok, zeros_at}
 
+-- b says whether the elements so far are unmapped, where they are to be, and d is the next one
+pub unmapped_too : (b : Bool) (d : ℕ) → d ≡ 0 → b ≡ b && eqb d 0
+unmapped_too b d z = by_bool b (λ h. rw (h, eq-eqb d 0 z)) (λ h. rw h)
+
+pub mapped_here : (b : Bool) (d : ℕ) → (d ≡ 0 → ⊥) → false ≡ b && eqb d 0
+mapped_here b d z = by_bool b (λ h. rw (h, ne_eqb d 0 z)) (λ h. rw h)
+
 -- an element of the slice from b on
 part_at : (l : List ℕ) (b k i : ℕ) → i < length (take k (drop b l)) → get_or (take k (drop b l)) i 0 ≡ get_or l (b + i) 0
 part_at l b k i h = get_or-take k (drop b l) i 0 (omega (arith, length-take k (drop b l))) ∙ get_or-drop b l i 0

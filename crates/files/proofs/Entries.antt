@@ -1,5 +1,5 @@
 -- One entry: whether a file's log may hold it, and what it does. Each kind is a case.
-use Rattle.model.proofs.Prelude.{ℕ, ◌+◌, ◌*◌, ◌-◌, ◌/◌, ◌≤◌, ◌≡◌, refl, sym, ◌∙◌, ap, fun_ext, Bool, true, false, cond, not, List, arith, leb, length, get_or, get_or-eq_default, le-leb, lt-leb, leb-true, ltb-true, not-false}
+use Rattle.model.proofs.Prelude.{ℕ, ◌+◌, ◌*◌, ◌-◌, ◌/◌, ◌≤◌, ◌<◌, ◌≡◌, refl, sym, ◌∙◌, ap, fun_ext, Bool, true, false, cond, not, List, arith, leb, length, get_or, get_or-eq_default, le-leb, lt-leb, leb-true, ltb-true, not-false}
 use Rattle.model.specs.Entry.{Entry as Full, write_entry, size_entry, add_entry, remove_entry, no_entry, file_entry_ok}
 use Rattle.model.specs.State.{File, file_step}
 use Rattle.model.proofs.Tests.{within, inside, outside, by_lt, ands}
@@ -9,6 +9,18 @@ use Rattle.inode_log.specs.declared.Entry.{Entry}
 use Rattle.inode_log.specs.declared.Entry.TheVariants.{Write, SetSize}
 use Rattle.files.specs.State.{file_from, filled, Applied}
 use Rattle.files.proofs.Runs.{length_filled, filled_at}
+
+-- A sum that could be too big for its type is tested part by part.
+
+module _ (a b c : ℕ) where
+  pub part_over : c < a → leb (a + b) c ≡ false
+  part_over h = lt-leb (a + b) c (omega arith)
+
+  pub sum_over_lem : a ≤ c → c - a < b → leb (a + b) c ≡ false
+  sum_over_lem h g = lt-leb (a + b) c (omega arith)
+
+  pub sum_under : a ≤ c → b ≤ c - a → leb (a + b) c ≡ true
+  sum_under h g = le-leb (a + b) c (omega arith)
 
 -- an entry that passed on a volume would pass on one of the most pages
 larger : (P N : ℕ) (e : Full) → P ≤ 4096 → file_entry_ok P N e ≡ true → file_entry_ok 4096 0 e ≡ true

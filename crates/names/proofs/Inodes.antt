@@ -1,8 +1,8 @@
 -- Where names lead: valid inodes, folders, and the names that are noted one after the other.
-use Rattle.model.proofs.Prelude.{ℕ, suc, ◌+◌, ◌*◌, ◌≤◌, ◌<◌, ◌≡◌, refl, sym, ◌∙◌, ap, Bool, true, false, not, ◌&&◌, List, [], ◌∷◌, map, arith, length, take, drop, drop-cons, length-drop, get_or, eqb, ltb, ne_eqb, ltb-true, not-false}
+use Rattle.model.proofs.Prelude.{ℕ, suc, ◌+◌, ◌*◌, ◌≤◌, ◌<◌, ◌≡◌, refl, sym, ◌∙◌, ap, Bool, true, false, not, ◌&&◌, List, [], ◌∷◌, map, arith, length, take, drop, drop-cons, length-drop, get_or, eqb, ltb, ne_eqb, lt-ltb, ltb-true, not-false}
 use Rattle.model.specs.Lists.{all}
 use Rattle.model.specs.Words.{Mem, word}
-use Rattle.model.specs.Layout.{type_word, is_directory}
+use Rattle.model.specs.Layout.{valid_word, type_word, is_directory}
 use Rattle.model.specs.Journal.{view, journal_ok}
 use Rattle.model.specs.State.{inodes}
 use Rattle.model.specs.Accept.{is_valid}
@@ -17,6 +17,10 @@ use Rattle.directory.proofs.Table.{first_places}
 use Rattle.names.specs.Inodes.{Readable, below, valid_in, folder_in, inodes_from}
 
 -- Whether an inode is valid, and a folder.
+
+pub valid_is : (u : Mem) (N k w x : ℕ) → k < N → w ≡ valid_word k → x ≡ u w → eqb x 1 ≡ valid_in u N k
+unfolding valid_in below
+valid_is u N k w x h i e = rw (lt-ltb k N h, e, i)
 
 pub folder_tests : (u : Mem) (N k : ℕ) → folder_in u N k ≡ valid_in u N k && is_directory u k
 unfolding folder_in valid_in below
