@@ -1,6 +1,7 @@
 -- Bytes copied one by one into a part p of a buffer from index b of a list v on: its first i elements are those, then the first i + 1, at
 -- last all.
-use Rattle.model.proofs.Prelude.{ℕ, ◌+◌, ◌≤◌, ◌<◌, ◌≡◌, sym, ◌∙◌, ap, List, [], ◌∷◌, ◌++◌, arith, add-one, length, set, take, drop, get_or, get_or-drop, length-drop}
+use Rattle.model.proofs.Prelude.{ℕ, ◌+◌, ◌≤◌, ◌<◌, ◌≡◌, sym, ◌∙◌, ap, List, [], ◌∷◌, ◌++◌, arith, add-one, length, set, take, drop}
+use Rattle.model.proofs.Prelude.{get_or, get_or-drop, length-drop}
 use Rattle.std.proofs.Math.Seq.{take-suc}
 use Rattle.std.proofs.lemmas.List.{take_more_set, take_all}
 
