@@ -135,7 +135,7 @@ pub fn list_words(v: &[u8], pairs: &mut [u64]) -> Result<u64, Refusal>
 {
     let mut marks = Marks::new();
     let n = judge(v, pairs.len() / 2, &mut marks)?;
-    for (i, gap) in Gaps::of(v, &marks).enumerate() {
+    for (i, gap) in Gaps::of(v, &marks).take(n).enumerate() {
         put_pair(pairs, i, gap);
     }
     Ok(n as u64)
