@@ -14,7 +14,8 @@ loop-i-preserved c =
     let k = ap (λ (e : Enumerate (Take Gaps)). e.iter.n) c.into_iter-i-iterator.ensures.into_iter_gives
     ∙ ap (λ (t : Take Gaps). t.n) c.enumerate-i-items.ensures.source ∙ c.take.ensures.count ∙ c.in_ok-n.ensures.seen.count in
     let road = numbered_taken c.into_iter-i-iterator.result gs (cc) (rw length-map k) (cc) in
-    let t = YieldsList-turn road c.loop-i.yielded _ c.loop-i.yielded_by _ c.next.new.self (c.in-Some.i, c.in-Some.gap) c.in-Some.is c.next.ensures.steps in
+    let t = YieldsList-turn road c.loop-i.yielded _ c.loop-i.yielded_by _ c.next.new.self
+    (c.in-Some.i, c.in-Some.gap) c.in-Some.is c.next.ensures.steps in
     gaps_next _ c.loop-i.yielded _ c.in-Some.i c.in-Some.gap c.loop-i.invariant (next_number gs _ _ _ t).0
 
 pub returns-in_err-n : goal.returns-in_err-n
@@ -29,7 +30,8 @@ bounds-list-i c =
     let k = ap (λ (e : Enumerate (Take Gaps)). e.iter.n) c.into_iter-i-iterator.ensures.into_iter_gives
     ∙ ap (λ (t : Take Gaps). t.n) c.enumerate-i-items.ensures.source ∙ c.take.ensures.count ∙ c.in_ok-n.ensures.seen.count in
     let road = numbered_taken c.into_iter-i-iterator.result gs (cc) (rw length-map k) (cc) in
-    let t = YieldsList-turn road c.loop-i.yielded _ c.loop-i.yielded_by _ c.next.new.self (c.in-Some.i, c.in-Some.gap) c.in-Some.is c.next.ensures.steps in
+    let t = YieldsList-turn road c.loop-i.yielded _ c.loop-i.yielded_by _ c.next.new.self
+    (c.in-Some.i, c.in-Some.gap) c.in-Some.is c.next.ensures.steps in
     gaps_room _ _ _ _ _ _ c.in_ok-n.ensures.seen (next_number gs _ _ _ t).1 c.loop-i.auto.list
 
 pub offset_bounds-list-i : goal.offset_bounds-list-i
@@ -38,7 +40,8 @@ offset_bounds-list-i c =
     let k = ap (λ (e : Enumerate (Take Gaps)). e.iter.n) c.into_iter-i-iterator.ensures.into_iter_gives
     ∙ ap (λ (t : Take Gaps). t.n) c.enumerate-i-items.ensures.source ∙ c.take.ensures.count ∙ c.in_ok-n.ensures.seen.count in
     let road = numbered_taken c.into_iter-i-iterator.result gs (cc) (rw length-map k) (cc) in
-    let t = YieldsList-turn road c.loop-i.yielded _ c.loop-i.yielded_by _ c.next.new.self (c.in-Some.i, c.in-Some.gap) c.in-Some.is c.next.ensures.steps in
+    let t = YieldsList-turn road c.loop-i.yielded _ c.loop-i.yielded_by _ c.next.new.self
+    (c.in-Some.i, c.in-Some.gap) c.in-Some.is c.next.ensures.steps in
     let b : c.in-Some.i * 16 < 18446744073709551616 = gap_fits c.args.list.now _ _ _ _ c.in_ok-n.ensures.seen (next_number gs _ _ _ t).1 in
     search rules
 
