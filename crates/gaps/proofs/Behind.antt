@@ -1,4 +1,4 @@
--- What a caller that asks for the gaps behind a gap knows of them: where they end, and that those behind the first one are the gaps behind it.
+-- What a caller that asks for the gaps behind a gap knows of them: where they end, and that those behind the first one lie from its end on.
 use Rattle.model.proofs.Prelude.{ℕ, zero, suc, ◌+◌, ◌-◌, ◌≤◌, ◌≡◌, refl, ap, Bool, false, cond, List, [], ◌∷◌, map, length, arith, eq-eqb, ne_eqb}
 use Rattle.std.proofs.lemmas.List.Elements.{All-nil, All-cons}
 use Rattle.model.specs.Stretches.{Stretch, stretches, stretches_of}
@@ -7,7 +7,7 @@ use Rattle.model.proofs.State.Stretches.{Each, Stands, stretches_stand}
 use Rattle.model.proofs.State.Gaps.{joined, pairs_none, pairs_step}
 use Rattle.model.specs.Words.{word}
 use Rattle.marks.specs.Marks.{unmarked}
-use Rattle.gaps.specs.Gaps.{gap_of, gaps_left, EndBy}
+use Rattle.gaps.specs.Gaps.{gap_of, gap_end, gaps_left, EndBy}
 use Rattle.gaps.proofs.Found.{none_first}
 use Rattle.gaps.specs.declared.Gap.{Gap}
 
@@ -16,15 +16,15 @@ abbrev pub no_gap : Gap
 no_gap = record { first = 0; length = 0 }
 
 -- the gaps behind it are all gaps
-pub all_behind : (v b : List ℕ) → gaps_left v b (no_gap.first + no_gap.length) ≡ gaps_left v b 0
+pub all_behind : (v b : List ℕ) → gaps_left v b (gap_end no_gap) ≡ gaps_left v b 0
 all_behind v b = refl
 
 -- the stretches of the n numbers from i on end at number P or before it
 stretches_end : (f : ℕ → ℕ) (P n i : ℕ) → i + n ≤ P → (ss : List Stretch) → Each (Stands f n i) ss
     → EndBy P (map gap_of (map (λ s. (s.first, s.count)) ss))
-stretches_end f P n i h [] e = All-nil (λ (g : Gap). g.first + g.length ≤ P)
+stretches_end f P n i h [] e = All-nil (λ g. gap_end g ≤ P)
 stretches_end f P n i h (s ∷ ss) e =
-    let k = e.0.to in All-cons (λ (g : Gap). g.first + g.length ≤ P) _ _ (omega arith) (stretches_end f P n i h ss e.1)
+    let k = e.0.to in All-cons (λ g. gap_end g ≤ P) _ _ (omega arith) (stretches_end f P n i h ss e.1)
 
 -- the gaps from page p on end at the page count or before it
 pub gaps_inside : (f : ℕ → Bool) (P p : ℕ) → EndBy P (map gap_of (stretches_of f (P - p) p))
@@ -32,7 +32,7 @@ unfolding stretches_of
 gaps_inside f P p =
     let on : ℕ → ℕ = λ j. cond (f j) j 0 in
     by_lt p P (λ l. stretches_end on P (P - p) p (omega arith) _ (stretches_stand on (P - p) p))
-    (λ l. rw (pairs_none f P p l) (All-nil (λ (g : Gap). g.first + g.length ≤ P)))
+    (λ l. rw (pairs_none f P p l) (All-nil (λ g. gap_end g ≤ P)))
 
 -- The stretches behind the first of the n numbers from i on are those of the numbers from its end on.
 module _ (f : ℕ → Bool) (nowhere : f 0 ≡ false) where
@@ -68,7 +68,7 @@ module _ (f : ℕ → Bool) (nowhere : f 0 ≡ false) where
 
 -- g is the first of the gaps from page p on: those behind it are the gaps from its end on
 pub gaps_behind : (v b : List ℕ) (p : ℕ) (g : Gap) (gs : List Gap) → map gap_of (gaps_left v b p) ≡ g ∷ gs
-    → gs ≡ map gap_of (gaps_left v b (g.first + g.length))
+    → gs ≡ map gap_of (gaps_left v b (gap_end g))
 gaps_behind v b p g gs e = by_lt p (word v 0) (λ l. split (omega arith) (gaps_left v b p) refl e) (λ l. absurd (none l))
   where
     P : ℕ
@@ -78,7 +78,7 @@ gaps_behind v b p g gs e = by_lt p (word v 0) (λ l. split (omega arith) (gaps_l
     none l = let z = ap length (rw (pairs_none (unmarked b P (word v 1)) P p l) at e) in omega arith
 
     split : p + (P - p) ≡ P → (xs : List (ℕ × ℕ)) → gaps_left v b p ≡ xs → map gap_of xs ≡ g ∷ gs
-        → gs ≡ map gap_of (gaps_left v b (g.first + g.length))
+        → gs ≡ map gap_of (gaps_left v b (gap_end g))
     split m [] q r = absurd (let z = ap length r in omega arith)
     split m (x ∷ xs) q r =
         let a : g ≡ gap_of x = cc in

@@ -1,11 +1,12 @@
 -- Lists that are filled with the gaps, one gap each turn: the elements of the gaps so far stand at the list's start.
-use Rattle.model.proofs.Prelude.{ℕ, suc, ◌+◌, ◌*◌, ◌/◌, ◌≤◌, ◌<◌, ◌≡◌, refl, sym, ◌∙◌, ap, List, [], ◌∷◌, ◌++◌, map, some, arith, add-zero, zero-add, length, length-map, get_or, set, length-append, map-append, sets, sets-eq, drop}
+use Rattle.model.proofs.Prelude.{ℕ, suc, ◌+◌, ◌*◌, ◌/◌, ◌≤◌, ◌<◌, ◌≡◌, refl, sym, ◌∙◌, ap, List, [], ◌∷◌, ◌++◌, map, some, arith, add-zero, zero-add, length, length-map, get_or, set, length-append, map-append, sets, sets-eq, drop, take-length}
 use Rattle.std.specs.Prelude.{Result, Err, IsErrAnd}
 use Rattle.std.specs.List.{enumerate_from}
 use Rattle.std.specs.Iterator.{YieldsFirst}
-use Rattle.std.specs.Iterator.Adapters.{enumerate_steps}
+use Rattle.std.specs.Iterator.Adapters.{enumerate_steps, take_steps}
 use Rattle.std.specs.declared.iter.Enumerate.{Enumerate}
-use Rattle.std.proofs.lemmas.Iterator.{YieldsList}
+use Rattle.std.specs.declared.iter.Take.{Take}
+use Rattle.std.proofs.lemmas.Iterator.{YieldsList, YieldsList-from_take}
 use Rattle.std.proofs.lemmas.Iterator.Consumers.{YieldsList-from_first, YieldsList-from_enumerate}
 use Rattle.std.proofs.lemmas.List.FromFn.{length-enumerate_from, get_or-enumerate_from}
 use Rattle.model.specs.Answer as model
@@ -51,6 +52,16 @@ pub numbered_gaps : (s : Enumerate Gaps) (gs : List Gap) → gaps_ahead s.iter.m
     → YieldsList (enumerate_steps (YieldsFirst (λ g. gaps_ahead g.marks.now g.sizes g.from))) (λ p. (p.0, p.1)) s (enumerate_from 0 gs)
 numbered_gaps s gs e z =
     YieldsList-from_enumerate {s = s} (YieldsList-from_first (λ x. x) (λ g. gaps_ahead g.marks.now g.sizes g.from) gs e) z
+
+-- the same where no more are asked for than there are
+pub numbered_taken : (s : Enumerate (Take Gaps)) (gs : List Gap) → gaps_ahead s.iter.iter.marks.now s.iter.iter.sizes s.iter.iter.from ≡ gs
+    → s.iter.n ≡ length gs → s.count ≡ 0
+    → YieldsList (enumerate_steps (take_steps (YieldsFirst (λ g. gaps_ahead g.marks.now g.sizes g.from)))) (λ p. (p.0, p.1)) s
+    (enumerate_from 0 gs)
+numbered_taken s gs e n z =
+    let r = YieldsList-from_take {s = s.iter} (length gs)
+    (YieldsList-from_first (λ x. x) (λ g. gaps_ahead g.marks.now g.sizes g.from) gs e) n in
+    YieldsList-from_enumerate {s = s} (rw (take-length gs) at r) z
 
 -- one element more, behind those that were set
 sets_more : {A : Type 0} (xs l : List A) (i : ℕ) (x : A) → sets l i (xs ++ x ∷ []) ≡ set (sets l i xs) (i + length xs) x

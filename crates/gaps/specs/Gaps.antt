@@ -20,6 +20,10 @@ pub record Runs (f : ℕ → Bool) (n p c : ℕ) : Type 0 where
 abbrev pub gap_of : ℕ × ℕ → Gap
 gap_of g = record { first = g.0; length = g.1 }
 
+-- the first page behind a gap
+abbrev pub gap_end : Gap → ℕ
+gap_end g = g.first + g.length
+
 -- the gaps from page p on, of the pages that are not marked
 abbrev pub gaps_ahead : List ℕ → Sizes → ℕ → List Gap
 gaps_ahead marks s p = map gap_of (stretches_of (unmarked marks s.pages s.inodes) (s.pages - p) p)
@@ -30,7 +34,7 @@ gaps_left v marks p = stretches_of (unmarked marks (word v 0) (word v 1)) (word 
 
 -- the gaps end at page P or before it
 abbrev pub EndBy : ℕ → List Gap → Type 0
-EndBy P gs = All (λ g. g.first + g.length ≤ P) gs
+EndBy P gs = All (λ g. gap_end g ≤ P) gs
 
 -- the marks show the gaps of the volume v, n of them, which a list of so many pairs has room for
 pub record Seen (v : List ℕ) (room n : ℕ) (marks : List ℕ) : Type 0 where

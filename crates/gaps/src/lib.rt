@@ -7,7 +7,7 @@ ghost use Rattle.model.specs.Public.{gaps_answer, gaps_words};
 ghost use Rattle.marks.specs.Marks.{unmarked};
 ghost use Rattle.answer.specs.Meaning.{meaning, numbered};
 ghost use Rattle.std.specs.Iterator.{YieldsFirst, item_count};
-ghost use Rattle.gaps.specs.Gaps.{Runs, gap_of, gaps_left, gaps_ahead, EndBy, Judged};
+ghost use Rattle.gaps.specs.Gaps.{Runs, gap_of, gap_end, gaps_left, gaps_ahead, EndBy, Judged};
 
 use answer::Refusal;
 use layout::Sizes;
@@ -64,7 +64,7 @@ impl<'a> Gaps<'a> {
     // (2, 2) and (5, 11), the one behind (5, 3) is (8, 8), and there is none behind (5, 11).
     pub fn behind(v: &[u8], marks: &'a Marks, gap: Gap) -> Gaps<'a>
         requires { (16 ≤ length v.now) × (word v.now 0 ≤ 4096) × (gap.first + gap.length ≤ 4096) }
-        ensures ahead { gaps_ahead result.marks.now result.sizes result.from ≡ map gap_of (gaps_left v.now marks.now (gap.first + gap.length)) }
+        ensures ahead { gaps_ahead result.marks.now result.sizes result.from ≡ map gap_of (gaps_left v.now marks.now (gap_end gap)) }
         ensures inside { EndBy (word v.now 0) (gaps_ahead result.marks.now result.sizes result.from) }
     {
         let from = gap.first + gap.length;
@@ -135,7 +135,7 @@ pub fn list_words(v: &[u8], pairs: &mut [u64]) -> Result<u64, Refusal>
 {
     let mut marks = Marks::new();
     let n = judge(v, pairs.len() / 2, &mut marks)?;
-    for (i, gap) in Gaps::of(v, &marks).enumerate() {
+    for (i, gap) in Gaps::of(v, &marks).take(n).enumerate() {
         put_pair(pairs, i, gap);
     }
     Ok(n as u64)

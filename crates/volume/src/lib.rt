@@ -231,7 +231,7 @@ pub fn gaps(v: &[u8], list: &mut [Gap]) -> Result<u64, Refusal>
 {
     let mut marks = Marks::new();
     let n = gaps::judge(v, list.len(), &mut marks)?;
-    for (i, gap) in Gaps::of(v, &marks).enumerate() {
+    for (i, gap) in Gaps::of(v, &marks).take(n).enumerate() {
         list[i] = gap;
     }
     Ok(n as u64)
