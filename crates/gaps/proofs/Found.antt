@@ -1,5 +1,6 @@
 -- The gaps from a page on: the lowest unmarked page begins the first of them, which goes on up to the next page that is marked.
 use Rattle.model.proofs.Prelude.{ℕ, zero, suc, ◌+◌, ◌-◌, ◌^◌, ◌≤◌, ◌<◌, ◌≡◌, refl, sym, ◌∙◌, Bool, true, false, not, List, [], ◌∷◌, map, none, some, ap, arith, not-true, not-false, le_trans, add-zero, length, length-map}
+use Rattle.std.specs.Prelude.{Result, Ok}
 use Rattle.model.specs.Lists.{lowest}
 use Rattle.model.specs.Words.{word}
 use Rattle.model.specs.Stretches.{stretches_of}
@@ -9,7 +10,8 @@ use Rattle.model.proofs.State.Stretches.{stretches_length}
 use Rattle.model.proofs.State.Gaps.{pairs_none, pairs_skip, pairs_next}
 use Rattle.marks.specs.Marks.{unmarked}
 use Rattle.layout.specs.declared.Sizes.{Sizes}
-use Rattle.gaps.specs.Gaps.{Runs, gap_of, gaps_left, gaps_ahead}
+use Rattle.answer.specs.declared.Refusal.{Refusal}
+use Rattle.gaps.specs.Gaps.{Runs, gap_of, gaps_left, gaps_ahead, counted}
 use Rattle.gaps.specs.declared.Gap.{Gap}
 
 -- The loop of `run_length`: f holds of the numbers from p to q, q itself left out. x says whether it holds of q.
@@ -100,3 +102,7 @@ few_left v b p h = rw length-map (le_trans (stretches_length _ (word v 0 - p) p)
 
 pub few_gaps : (v b : List ℕ) (p : ℕ) (gs : List Gap) → gs ≡ map gap_of (gaps_left v b p) → word v 0 ≤ 4096 → 0 + length gs < 2 ^ 64
 few_gaps v b p gs e h = let l = few_left v b p h in rw (e, length-map) (omega arith)
+
+-- an answer that is a number has its own count
+pub one_count : (r : Result ℕ Refusal) (n : ℕ) → r ≡ Ok n → n ≡ counted r
+one_count r n e = rw e

@@ -17,14 +17,6 @@ use Rattle.gaps.specs.Gaps.{gap_of, gaps_left, Judged}
 use Rattle.gaps.proofs.Found.{few_left}
 use Rattle.gaps.specs.declared.Gap.{Gap}
 
--- the count of gaps that an answer has, 0 of a refusal; an answer that is a number has its own
-abbrev pub counted : Result ℕ Refusal → ℕ
-counted (Ok n) = n
-counted (Err e) = 0
-
-pub one_count : (r : Result ℕ Refusal) (n : ℕ) → r ≡ Ok n → n ≡ counted r
-one_count r n e = rw e
-
 -- the gaps of the volume v
 abbrev gaps_of : List ℕ → List (ℕ × ℕ)
 gaps_of v = gaps (view (word v)) (word v 0) (word v 1)

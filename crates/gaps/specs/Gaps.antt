@@ -1,5 +1,5 @@
 -- Gaps in the marks that the judge of a volume left.
-use Rattle.std.specs.Prelude.{ℕ, ◌+◌, ◌-◌, ◌≤◌, ◌<◌, ◌≡◌, Bool, true, false, List, map, length, Result, IfOk, All}
+use Rattle.std.specs.Prelude.{ℕ, ◌+◌, ◌-◌, ◌≤◌, ◌<◌, ◌≡◌, Bool, true, false, List, map, length, Result, Ok, Err, IfOk, All}
 use Rattle.model.specs.Stretches.{stretches_of}
 use Rattle.model.specs.Words.{word}
 use Rattle.model.specs.Answer.{done}
@@ -44,6 +44,11 @@ pub record Seen (v : List ℕ) (room n : ℕ) (marks : List ℕ) : Type 0 where
   pub few : n ≤ 4096
   pub fits : n ≤ room
   pub gaps : gaps_in (length v) (word v) room ≡ done (gaps_left v marks 0)
+
+-- the count of gaps that an answer has, 0 of a refusal
+abbrev pub counted : Result ℕ Refusal → ℕ
+counted (Ok n) = n
+counted (Err e) = 0
 
 -- what `judge` answers, and the marks that it leaves
 pub record Judged (v : List ℕ) (room : ℕ) (r : Result ℕ Refusal) (marks : List ℕ) : Type 0 where
